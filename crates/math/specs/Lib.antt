@@ -1,0 +1,5 @@
+pub mod Vectors
+pub mod Matrices
+pub mod Quaternions
+pub mod Mounting
+pub mod Turned

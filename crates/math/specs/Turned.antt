@@ -1,0 +1,16 @@
+-- One vector turned: 4 for a number above 23, then 5 for a vector that is not finite, else the turned vector.
+use mathlib.Core.Bool.{not}
+use mathlib.Core.List.{List, [], _∷_}
+use Prim.Native.Nat.{ℕ}
+use lib.Dec.{ltb}
+use Rattle.answer.specs.declared.Answer.{Answer}
+use Rattle.answer.specs.declared.Answer.the-variants.{Turned}
+use Rattle.answer.specs.Refusals.{Check, check}
+use Rattle.math.specs.declared.vector.Vector.{Vector}
+use Rattle.math.specs.Vectors.{finiteVector}
+
+abbrev pub turnChecks : Vector → ℕ → List Check
+turnChecks v n = check 4 (ltb 23 n) ∷ check 5 (not (finiteVector v)) ∷ []
+
+abbrev pub turnedAnswer : Vector → Answer
+turnedAnswer v = Turned (v .x) (v .y) (v .z)

@@ -1,0 +1,6 @@
+pub mod Signs
+pub mod Same
+pub mod Size
+pub mod Unsigned
+pub mod Signed
+pub mod Range

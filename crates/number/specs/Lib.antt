@@ -1,0 +1,3 @@
+pub mod Float32
+pub mod Same
+pub mod Whole

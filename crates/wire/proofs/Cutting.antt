@@ -1,0 +1,21 @@
+-- Where the bytes are cut into parts changes nothing, for any machine. Assumes nothing.
+use Prim.Native.Nat.{ℕ}
+use mathlib.Core.Path.{_≡_, refl, ap, sym, _∙_}
+use mathlib.Core.List.{List, [], _∷_, _++_, append-assoc}
+use Rattle.wire.specs.Stream.{joined, after, gives, givesParts, Uncut}
+
+module _ {S O : Type 0} (step : S → ℕ → S) (out : S → ℕ → List O) where
+  pub after-append : (s : S) (x y : List ℕ) → after step out s (x ++ y) ≡ after step out (after step out s x) y
+  after-append s [] y = refl
+  after-append s (b ∷ x) y = after-append (step s b) x y
+
+  pub gives-append : (s : S) (x y : List ℕ) → gives step out s (x ++ y) ≡ gives step out s x ++ gives step out (after step out s x) y
+  gives-append s [] y = refl
+  gives-append s (b ∷ x) y = rw (gives-append (step s b) x y, append-assoc)
+
+  pub cut : Uncut step out
+  cut end s [] = refl
+  cut end s (x ∷ parts) =
+      ap (λ (q : List O). gives step out s x ++ q) (cut end (after step out s x) parts)
+      ∙ sym (append-assoc (gives step out s x) (gives step out (after step out s x) (joined parts)) (end (after step out (after step out s x) (joined parts))))
+      ∙ simp (gives-append s x (joined parts), after-append s x (joined parts))

@@ -1,0 +1,4 @@
+pub mod Bench
+pub mod Cutting
+pub mod Laws
+pub mod Written
