@@ -1,6 +1,6 @@
 -- What an arm of `Vector::turned` has to show, and what its last arm `_` knows of the number. Assumes nothing.
-use mathlib.Core.Path.{_≡_, refl, sym, subst, ap, _∙_}
-use mathlib.Core.Bool.{Bool, true, false, not, cond}
+use mathlib.Core.Path.{_≡_, refl, sym, subst, _∙_}
+use mathlib.Core.Bool.{Bool, true, false, cond}
 use Prim.Native.Nat.{ℕ, zero, suc, _≤_, zero-le}
 use lib.Arith.{lt-of-le-ne}
 use lib.Dec.{ltb}

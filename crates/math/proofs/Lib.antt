@@ -1,1 +1,2 @@
 pub mod Arms
+mod Wrong

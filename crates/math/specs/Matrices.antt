@@ -21,9 +21,15 @@ at rows i j = getD (getD rows i []) j nan
 abbrev pub fromRowsOf : List (List Float) → Matrix
 fromRowsOf rows =
     record {
-      xx = at rows 0 0; xy = at rows 0 1; xz = at rows 0 2;
-      yx = at rows 1 0; yy = at rows 1 1; yz = at rows 1 2;
-      zx = at rows 2 0; zy = at rows 2 1; zz = at rows 2 2;
+      xx = at rows 0 0;
+      xy = at rows 0 1;
+      xz = at rows 0 2;
+      yx = at rows 1 0;
+      yy = at rows 1 1;
+      yz = at rows 1 2;
+      zx = at rows 2 0;
+      zy = at rows 2 1;
+      zz = at rows 2 2;
     }
 
 abbrev pub toRowsOf : Matrix → List (List Float)
@@ -33,17 +39,29 @@ toRowsOf m =
 abbrev pub transposeOf : Matrix → Matrix
 transposeOf m =
     record {
-      xx = m .xx; xy = m .yx; xz = m .zx;
-      yx = m .xy; yy = m .yy; yz = m .zy;
-      zx = m .xz; zy = m .yz; zz = m .zz;
+      xx = m .xx;
+      xy = m .yx;
+      xz = m .zx;
+      yx = m .xy;
+      yy = m .yy;
+      yz = m .zy;
+      zx = m .xz;
+      zy = m .yz;
+      zz = m .zz;
     }
 
 abbrev pub mulOf : Matrix → Float → Matrix
 mulOf m s =
     record {
-      xx = m .xx ⊗ s; xy = m .xy ⊗ s; xz = m .xz ⊗ s;
-      yx = m .yx ⊗ s; yy = m .yy ⊗ s; yz = m .yz ⊗ s;
-      zx = m .zx ⊗ s; zy = m .zy ⊗ s; zz = m .zz ⊗ s;
+      xx = m .xx ⊗ s;
+      xy = m .xy ⊗ s;
+      xz = m .xz ⊗ s;
+      yx = m .yx ⊗ s;
+      yy = m .yy ⊗ s;
+      yz = m .yz ⊗ s;
+      zx = m .zx ⊗ s;
+      zy = m .zy ⊗ s;
+      zz = m .zz ⊗ s;
     }
 
 abbrev pub mulVectorOf : Matrix → Vector → Vector

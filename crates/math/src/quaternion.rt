@@ -29,7 +29,10 @@ impl Quaternion {
     pub fn is_finite(self) -> bool
         ensures { λ r. ⌜ r ≡ finiteQuaternion self ⌝ }
     {
-        number::is_finite(self.w) & number::is_finite(self.x) & number::is_finite(self.y) & number::is_finite(self.z)
+        number::is_finite(self.w)
+            & number::is_finite(self.x)
+            & number::is_finite(self.y)
+            & number::is_finite(self.z)
     }
 
     // The Rust's `==`: a NaN equals nothing, and the zeros are equal.

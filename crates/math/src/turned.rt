@@ -1,6 +1,6 @@
 // A vector turned by a mounting, by number, in the order of `RemapAlignment::ALL`.
-use answer::Answer;
 use super::vector::Vector;
+use answer::Answer;
 ghost use mathlib.Core.Path.{_≡_};
 ghost use mathlib.Core.Bool.{cond};
 ghost use Rattle.answer.specs.Answers.{Answers};

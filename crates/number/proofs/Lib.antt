@@ -4,3 +4,4 @@ pub mod Size
 pub mod Unsigned
 pub mod Signed
 pub mod Range
+mod Wrong

@@ -2,7 +2,7 @@
 use Prim.Native.Nat.{ℕ}
 use mathlib.Core.Path.{_≡_, refl, ap, sym, _∙_}
 use mathlib.Core.List.{List, [], _∷_, _++_, append-assoc}
-use Rattle.wire.specs.Stream.{joined, after, gives, givesParts, Uncut}
+use Rattle.wire.specs.Stream.{joined, after, gives, Uncut}
 
 module _ {S O : Type 0} (step : S → ℕ → S) (out : S → ℕ → List O) where
   pub after-append : (s : S) (x y : List ℕ) → after step out s (x ++ y) ≡ after step out (after step out s x) y

@@ -1,6 +1,5 @@
 -- `number::from_i32` meets its contract: a number of 32 bits comes back from its bits. Assumes nothing.
 use mathlib.Core.Path.{ap, _∙_}
-use lib.IntN.{ℤ}
 use lib.Ieee.{binary32, ofInt}
 use mir.Facts.{toZ-ofZ}
 use Rattle.number.proofs.whole.from_i32.Statement.{statement}
