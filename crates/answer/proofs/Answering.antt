@@ -1,24 +1,71 @@
--- An answer that is exact has the table's number and the accepted answer's values. Assumes nothing.
+-- What a return of a call has to show, from the tests that led to it: which check fails, and the answer or the state then. Assumes nothing.
 use Prim.Native.Nat.{ℕ, zero, suc}
-use mathlib.Core.Path.{_≡_, refl, ap, _∙_}
-use mathlib.Core.List.{List, []}
+use mathlib.Core.Path.{_≡_, refl, sym, ap, _∙_}
+use mathlib.Core.Bool.{Bool, true, false}
+use mathlib.Core.List.{List, [], _∷_}
 use Rattle.answer.specs.declared.Answer.{Answer}
 use Rattle.answer.specs.declared.Answer.the-variants.{Refused}
-use Rattle.answer.specs.Refusals.{Check, refusalOf, accepted}
+use Rattle.answer.specs.Refusals.{Check, check, refusalOf, accepted, Answered, Changed, OnlyOne}
 use Rattle.answer.specs.Answers.{numberOf, valuesOf, Answers}
 
-number-of : (k : ℕ) (a : Answer) → numberOf a ≡ 0 → numberOf (accepted k a (Refused k)) ≡ k
-number-of zero a z = z
-number-of (suc k) a z = refl
+-- ---- which check fails
 
-values-of : (k : ℕ) (a : Answer) → valuesOf (accepted k a (Refused k)) ≡ accepted k (valuesOf a) []
-values-of zero a = refl
-values-of (suc k) a = refl
+pub fails : (n : ℕ) {b : Bool} (cs : List Check) → b ≡ true → refusalOf (check n b ∷ cs) ≡ n
+unfolding refusalOf
+fails n cs e = rw e
+
+pub passes : (n : ℕ) {b : Bool} (cs : List Check) → b ≡ false → refusalOf (check n b ∷ cs) ≡ refusalOf cs
+unfolding refusalOf
+passes n cs e = rw e
+
+pub all-pass : refusalOf [] ≡ 0
+unfolding refusalOf
+all-pass = refl
+
+-- ---- the answer, for any type of answers whose refusals carry their number alone
+
+module _ {A B : Type 0} (number : A → ℕ) (values : A → List B) (refused : ℕ → A)
+    (numbered : (n : ℕ) → number (refused n) ≡ n) (bare : (n : ℕ) → values (refused n) ≡ []) where
+  number-of : (k : ℕ) (a : A) → number a ≡ 0 → number (accepted k a (refused k)) ≡ k
+  number-of zero a z = z
+  number-of (suc k) a z = numbered (suc k)
+
+  values-of : (k : ℕ) (a : A) → values (accepted k a (refused k)) ≡ accepted k (values a) []
+  values-of zero a = refl
+  values-of (suc k) a = bare (suc k)
+
+  pub answered : (cs : List Check) (a r : A) → number a ≡ 0 → r ≡ accepted (refusalOf cs) a (refused (refusalOf cs)) → Answered number values refused cs a r
+  answered cs a r z e =
+      record {
+        exact = e;
+        number = ap number e ∙ number-of (refusalOf cs) a z;
+        values = ap values e ∙ values-of (refusalOf cs) a;
+      }
+
+  -- the checks give a number
+  pub refuses : (cs : List Check) (a : A) (k : ℕ) → number a ≡ 0 → refusalOf cs ≡ suc k → Answered number values refused cs a (refused (suc k))
+  refuses cs a k z e = answered cs a (refused (suc k)) z (ap (λ (n : ℕ). accepted n a (refused n)) (sym e))
+
+  -- they give none
+  pub accepts : (cs : List Check) (a : A) → number a ≡ 0 → refusalOf cs ≡ 0 → Answered number values refused cs a a
+  accepts cs a z e = answered cs a a z (ap (λ (n : ℕ). accepted n a (refused n)) (sym e))
 
 pub answers : (cs : List Check) (a r : Answer) → numberOf a ≡ 0 → r ≡ accepted (refusalOf cs) a (Refused (refusalOf cs)) → Answers cs a r
-answers cs a r z e =
+answers = answered numberOf valuesOf Refused (λ n. refl) (λ n. refl)
+
+-- ---- the state or the lent slice
+
+pub keeps : {A : Type 0} (cs : List Check) (new old : A) (k : ℕ) → refusalOf cs ≡ suc k → Changed cs new old old (suc k)
+keeps cs new old k e = record { number = sym e; holds = ap (λ (n : ℕ). accepted n new old) (sym e) }
+
+pub changes : {A : Type 0} (cs : List Check) (new old : A) → refusalOf cs ≡ 0 → Changed cs new old new 0
+changes cs new old e = record { number = sym e; holds = ap (λ (n : ℕ). accepted n new old) (sym e) }
+
+-- ---- a promise has one result
+
+pub only-one : OnlyOne
+only-one =
     record {
-      exact = e;
-      number = ap numberOf e ∙ number-of (refusalOf cs) a z;
-      values = ap valuesOf e ∙ values-of (refusalOf cs) a;
+      answered = λ numberOf valuesOf refused cs a r s p q. p .exact ∙ sym (q .exact);
+      changed = λ cs new old now also r s p q. (p .number ∙ sym (q .number), p .holds ∙ sym (q .holds));
     }

@@ -6,6 +6,7 @@ use Prim.Native.Nat.{_-_, _^_}
 use lib.IntN.{pos, negsuc}
 use lib.Ieee.{fin, binary32, ofBits, toBits, ofInt}
 use Rattle.root.specs.Root.{sqrtOf}
+use Rattle.remap.specs.Composition.{composeOf, inverseOf}
 
 pub record Starred : Type 0 where
   -- root of 2.0 has bits 3FB504F3
@@ -20,3 +21,8 @@ pub record Starred : Type 0 where
   pub whole-down : ofInt binary32 (pos 16777217) ≡ fin false 1 (pos 24)
   -- 16777219 converts to 16777220, which is 4194305 * 2^2
   pub whole-up : ofInt binary32 (pos 16777219) ≡ fin false 4194305 (pos 2)
+  -- 1 then 1 is 2; 1 then 11 is 20; 11 then 1 is 8; 3 undoes 1
+  pub one-then-one : composeOf 1 1 ≡ 2
+  pub one-then-eleven : composeOf 1 11 ≡ 20
+  pub eleven-then-one : composeOf 11 1 ≡ 8
+  pub three-undoes-one : inverseOf 1 ≡ 3

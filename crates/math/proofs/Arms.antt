@@ -1,4 +1,4 @@
--- What an arm of `Vector::turned` has to show, and what its last arm `_` knows of the number. Assumes nothing.
+-- What an arm of `Vector::turned` has to show, what its last arm `_` knows of the number, and the table's law of both refusals. Assumes nothing.
 use mathlib.Core.Path.{_≡_, refl, sym, subst, _∙_}
 use mathlib.Core.Bool.{Bool, true, false, cond}
 use Prim.Native.Nat.{ℕ, zero, suc, _≤_, zero-le}
@@ -7,13 +7,14 @@ use lib.Dec.{ltb}
 use borrow.Author.Tests.{lt-ltb}
 use Rattle.answer.specs.declared.Answer.{Answer}
 use Rattle.answer.specs.declared.Answer.the-variants.{Refused}
-use Rattle.answer.specs.Refusals.{refusalOf, accepted}
+use Rattle.answer.specs.Refusals.{refusalOf, accepted, ascends}
 use Rattle.answer.specs.Answers.{Answers}
 use Rattle.answer.proofs.Answering.{answers}
+use Rattle.answer.proofs.Table.{by-the-table}
 use Rattle.math.specs.declared.vector.Vector.{Vector}
 use Rattle.math.specs.Vectors.{finiteVector}
 use Rattle.math.specs.Mounting.{turnOf}
-use Rattle.math.specs.Turned.{turnChecks, turnedAnswer}
+use Rattle.math.specs.Turned.{turnChecks, turnedAnswer, ExactlyWhen}
 
 -- the answer at a number that is a mounting's
 settled : (v w : Vector) (k : ℕ) (b : Bool) → ltb 23 k ≡ false → finiteVector v ≡ b
@@ -42,3 +43,7 @@ past (suc k) n r = lt-of-le-ne (past k n (r .0)) (λ e. r .1 (sym e))
 pub beyond : (v : Vector) (m : ℕ) → Rest 24 m → Answers (turnChecks v m) (turnedAnswer (turnOf m v)) (Refused 4)
 unfolding refusalOf
 beyond v m r = answers (turnChecks v m) (turnedAnswer (turnOf m v)) (Refused 4) refl (simp (lt-ltb 23 m (past 24 m r)))
+
+pub exactly-when : ExactlyWhen
+unfolding ascends
+exactly-when v n = by-the-table (turnChecks v n) tt

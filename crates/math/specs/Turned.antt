@@ -5,7 +5,7 @@ use Prim.Native.Nat.{ℕ}
 use lib.Dec.{ltb}
 use Rattle.answer.specs.declared.Answer.{Answer}
 use Rattle.answer.specs.declared.Answer.the-variants.{Turned}
-use Rattle.answer.specs.Refusals.{Check, check}
+use Rattle.answer.specs.Refusals.{Check, check, Exactly}
 use Rattle.math.specs.declared.vector.Vector.{Vector}
 use Rattle.math.specs.Vectors.{finiteVector}
 
@@ -14,3 +14,7 @@ turnChecks v n = check 4 (ltb 23 n) ∷ check 5 (not (finiteVector v)) ∷ []
 
 abbrev pub turnedAnswer : Vector → Answer
 turnedAnswer v = Turned (v .x) (v .y) (v .z)
+
+-- the table's law of them
+abbrev pub ExactlyWhen : Type 0
+ExactlyWhen = (v : Vector) (n : ℕ) → Exactly (turnChecks v n)

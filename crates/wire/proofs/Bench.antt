@@ -1,12 +1,11 @@
--- The numbers of 01's bench record, and what the definitions do not take. Assumes nothing.
+-- The numbers of 01's bench record, by evaluation. Assumes nothing.
 use Prim.Native.Nat.{ℕ}
 use lib.IntN.{pos, negsuc}
 use mathlib.Core.Path.{_≡_, refl}
-use mathlib.Core.Bool.{true, false, not}
+use mathlib.Core.Bool.{true, false}
 use mathlib.Core.List.{List, [], _∷_}
-use lib.Dec.{T, eqb}
 use lib.Ieee.{fin, nan, ofBits, toBits}
-use Rattle.wire.specs.Wire.{u16At, bitsAt, finiteBits, floatOf, bitsOf}
+use Rattle.wire.specs.Wire.{u16At, bitsAt, floatOf, bitsOf}
 
 -- 01 00, then 1, -2 and 0.5
 record-bytes : List ℕ
@@ -20,9 +19,3 @@ bench :
     × (bitsOf nan ≡ 0x7FC00000)
 unfolding record-bytes ofBits toBits
 bench = (refl, refl, refl, refl, refl)
-
--- highest byte first, an infinity, a NaN
-not-taken :
-    T (not (eqb (u16At record-bytes 0) 256)) × T (not (eqb (bitsAt record-bytes 2) 0x803F)) × T (not (finiteBits 0x7F800000)) × T (not (finiteBits 0xFFC00000))
-unfolding record-bytes finiteBits
-not-taken = (tt, tt, tt, tt)

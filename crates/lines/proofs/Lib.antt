@@ -1,0 +1,9 @@
+pub mod Answering
+pub mod Bench
+pub mod Cutting
+pub mod Feeding
+pub mod Keeping
+pub mod Promising
+pub mod Putting
+pub mod Refusing
+pub mod Wrong

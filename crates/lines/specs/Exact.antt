@@ -1,0 +1,20 @@
+-- 01, "The refusal table", and "What we will read in the promises": each number is given exactly when its row says, and a result is the only one.
+use Prim.Native.Nat.{ℕ}
+use mathlib.Core.Path.{_≡_}
+use mathlib.Core.List.{List}
+use Rattle.answer.specs.Refusals.{Check, Exactly}
+use Rattle.lines.specs.declared.Line.{Line}
+use Rattle.lines.specs.declared.Fed.{Fed}
+use Rattle.lines.specs.Rule.{lineChecks}
+use Rattle.lines.specs.Feeding.{feedChecks, lastChecks, Feeds}
+
+pub record ExactlyWhen : Type 0 where
+  pub line : (n : ℕ) (s : List ℕ) → Exactly (lineChecks n s)
+  pub feed : (part out : List ℕ) → Exactly (feedChecks part out)
+  pub last : (out : List ℕ) → Exactly (lastChecks out)
+
+-- two results that both satisfy the promise are the same, and leave the same in the lent slice
+abbrev pub OnlyOne : Type 0
+OnlyOne =
+    (cs : List Check) (l new : Line) (text old after also : List ℕ) (r s : Fed)
+    → Feeds cs l new text old after r → Feeds cs l new text old also s → (r ≡ s) × (after ≡ also)

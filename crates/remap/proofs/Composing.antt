@@ -1,0 +1,133 @@
+-- Two mountings, one after the other, act on every vector as the single one, and each has one that undoes it. Assumes nothing.
+use Prim.Native.Nat.{ℕ, _+_, _*_, _/_, _%_, _<_}
+use native.Mathlib.Nat.{zero-add}
+use native.Mathlib.Omega.{arith}
+use mathlib.Core.Path.{_≡_, refl, ap, ap₂, sym, _∙_}
+use mathlib.Core.Bool.{Bool, _&&_, cond}
+use lib.Dec.{T, eqb, ltb, eqb→eq, ltb→lt}
+use lib.Ieee.{Float, neg}
+use lib.Ieee.Fits.{and-l, and-r}
+use lib.ListN.{getD}
+use Rattle.number.proofs.Signs.{neg-neg}
+use Rattle.math.specs.declared.vector.Vector.{Vector}
+use Rattle.math.specs.Mounting.{Signed, Px, Py, Pz, Nx, Ny, Nz, Mounting, mountingOf, read, turn, turnOf}
+use Rattle.remap.specs.First.{first}
+use Rattle.remap.specs.Names.{sign, letter, spell, nameOf, same}
+use Rattle.remap.specs.Composition.{opposite, afterwards, composeOf, inverseOf, Composes, Undone}
+use Rattle.remap.proofs.Naming.{is-name}
+use Rattle.remap.proofs.Tabled.{tabulate, tabulated, at-each}
+
+-- ---- two signed permutations, one after the other
+
+read-opposite : (x y z : Float) (s : Signed) → neg (read neg x y z s) ≡ read neg x y z (opposite s)
+read-opposite x y z Px = refl
+read-opposite x y z Py = refl
+read-opposite x y z Pz = refl
+read-opposite x y z Nx = neg-neg x
+read-opposite x y z Ny = neg-neg y
+read-opposite x y z Nz = neg-neg z
+
+read-read : (x y z : Float) (p q r s : Signed)
+    → read neg (read neg x y z p) (read neg x y z q) (read neg x y z r) s ≡ read neg x y z (read opposite p q r s)
+read-read x y z p q r Px = refl
+read-read x y z p q r Py = refl
+read-read x y z p q r Pz = refl
+read-read x y z p q r Nx = read-opposite x y z p
+read-read x y z p q r Ny = read-opposite x y z q
+read-read x y z p q r Nz = read-opposite x y z r
+
+pub turn-turn : (a b : Mounting) (v : Vector) → turn b (turn a v) ≡ turn (afterwards a b) v
+turn-turn a b v = λ i. record { x = axis (b .x) i; y = axis (b .y) i; z = axis (b .z) i }
+  where
+    axis : (s : Signed) → read neg (turn a v .x) (turn a v .y) (turn a v .z) s ≡ read neg (v .x) (v .y) (v .z) (read opposite (a .x) (a .y) (a .z) s)
+    axis s = read-read (v .x) (v .y) (v .z) (a .x) (a .y) (a .z) s
+
+-- ---- a mounting is told by its name
+
+abbrev axisOf : ℕ → Signed → Signed → Signed → Signed
+axisOf l x y z = cond (eqb l 88) x (cond (eqb l 89) y z)
+
+abbrev told : ℕ → ℕ → Signed
+told c l = cond (eqb c 43) (axisOf l Px Py Pz) (axisOf l Nx Ny Nz)
+
+told-again : (s : Signed) → told (sign s) (letter s) ≡ s
+told-again Px = refl
+told-again Py = refl
+told-again Pz = refl
+told-again Nx = refl
+told-again Ny = refl
+told-again Nz = refl
+
+told-apart : (s t : Signed) → sign s ≡ sign t → letter s ≡ letter t → s ≡ t
+told-apart s t p q = sym (told-again s) ∙ ap₂ told p q ∙ told-again t
+
+spell-once : (a b : Mounting) → spell a ≡ spell b → a ≡ b
+spell-once a b e = λ i. record { x = px i; y = py i; z = pz i }
+  where
+    px : a .x ≡ b .x
+    px = told-apart (a .x) (b .x) (cc) (cc)
+
+    py : a .y ≡ b .y
+    py = told-apart (a .y) (b .y) (cc) (cc)
+
+    pz : a .z ≡ b .z
+    pz = told-apart (a .z) (b .z) (cc) (cc)
+
+-- ---- the set is closed: a test that antt computes at all 576
+
+-- first then second, at the place of the two
+abbrev pub composeAt : ℕ → ℕ
+composeAt i = composeOf (i / 24) (i % 24)
+
+place : (a b : ℕ) → b < 24 → composeAt (a * 24 + b) ≡ composeOf a b
+place a b h =
+    let q : (a * 24 + b) / 24 ≡ a = omega arith in
+    let r : (a * 24 + b) % 24 ≡ b = omega arith in
+    ap₂ composeOf q r
+
+closed : (a b : ℕ) → a < 24 → b < 24 → composeOf a b < 24
+unfolding composeOf first same nameOf mountingOf
+closed a b h g =
+    rw (place a b g) at (ltb→lt (composeAt (a * 24 + b)) 24 (at-each 576 (λ i. ltb (composeAt i) 24) tt (a * 24 + b) (omega arith)))
+
+compose-is : (a b : ℕ) → a < 24 → b < 24 → mountingOf (composeOf a b) ≡ afterwards (mountingOf a) (mountingOf b)
+unfolding composeOf nameOf
+compose-is a b h g = spell-once _ _ (sym (is-name (spell (afterwards (mountingOf a) (mountingOf b))) (closed a b h g)))
+
+turn-compose : (a b : ℕ) (v : Vector) → a < 24 → b < 24 → turnOf b (turnOf a v) ≡ turnOf (composeOf a b) v
+turn-compose a b v h g = turn-turn (mountingOf a) (mountingOf b) v ∙ ap (λ (m : Mounting). turn m v) (sym (compose-is a b h g))
+
+pub composes : Composes
+composes a b v h g = (closed a b h g, turn-compose a b v h g)
+
+-- ---- what undoes: a test that antt computes at all 24
+
+abbrev undoes : ℕ → ℕ → Bool
+undoes n m = ltb m 24 && (eqb (composeOf n m) 0 && eqb (composeOf m n) 0)
+
+inverse-undoes : (n : ℕ) → n < 24 → T (undoes n (inverseOf n))
+unfolding composeOf inverseOf first same nameOf mountingOf
+inverse-undoes n h = at-each 24 (λ i. undoes i (inverseOf i)) tt n h
+
+in-place : (n : ℕ) (v : Vector) → n ≡ 0 → turnOf n v ≡ v
+unfolding mountingOf
+in-place n v e = ap (λ (m : ℕ). turnOf m v) e
+
+pub undone : Undone
+undone n v h =
+    let m = inverseOf n in
+    let t = inverse-undoes n h in
+    let both = and-r (ltb m 24) (eqb (composeOf n m) 0 && eqb (composeOf m n) 0) t in
+    let g = ltb→lt m 24 (and-l (ltb m 24) (eqb (composeOf n m) 0 && eqb (composeOf m n) 0) t) in (
+      g,
+      turn-compose n m v h g ∙ in-place (composeOf n m) v (eqb→eq (composeOf n m) 0 (and-l (eqb (composeOf n m) 0) (eqb (composeOf m n) 0) both)),
+      turn-compose m n v g h ∙ in-place (composeOf m n) v (eqb→eq (composeOf m n) 0 (and-r (eqb (composeOf n m) 0) (eqb (composeOf m n) 0) both)),
+    )
+
+-- ---- the code's constants
+
+pub compose-at : (a b : ℕ) → a < 24 → b < 24 → getD (tabulate composeAt 576 0) (a * 24 + b) 0 ≡ composeOf a b
+compose-at a b h g = tabulated composeAt 576 0 (a * 24 + b) (omega arith) ∙ ap composeAt (zero-add (a * 24 + b)) ∙ place a b g
+
+pub inverse-at : (n : ℕ) → n < 24 → getD (tabulate inverseOf 24 0) n 0 ≡ inverseOf n
+inverse-at n h = tabulated inverseOf 24 0 n h ∙ ap inverseOf (zero-add n)

@@ -1,0 +1,8 @@
+pub mod Composing
+pub mod Giving
+pub mod Naming
+pub mod Refusing
+pub mod Running
+pub mod Searching
+pub mod Tabled
+mod Wrong

@@ -1,0 +1,34 @@
+-- A table that a function of the place makes, and a test at every number below a bound, which antt computes.
+-- Assumes nothing.
+use Prim.Native.Nat.{ℕ, zero, suc, _+_, _<_}
+use native.Mathlib.Nat.{not-suc-le-zero, le-of-suc-le-suc, add-zero}
+use native.Mathlib.Decide.{decLt}
+use native.Mathlib.Omega.{arith}
+use mathlib.Core.Path.{_≡_, ap, sym, subst, _∙_}
+use mathlib.Core.Bool.{Bool, true, _&&_}
+use mathlib.Core.List.{List, [], _∷_}
+use lib.Dec.{T}
+use lib.ListN.{getD}
+use lib.Ieee.Fits.{and-l, and-r}
+
+-- f at k places from i on
+abbrev pub tabulate : (ℕ → ℕ) → ℕ → ℕ → List ℕ
+tabulate f zero i = []
+tabulate f (suc k) i = f i ∷ tabulate f k (suc i)
+
+pub tabulated : (f : ℕ → ℕ) (k i j : ℕ) → j < k → getD (tabulate f k i) j 0 ≡ f (i + j)
+tabulated f zero i j h = absurd (not-suc-le-zero h)
+tabulated f (suc k) i zero h = ap f (sym (add-zero i))
+tabulated f (suc k) i (suc j) h = tabulated f k (suc i) j (le-of-suc-le-suc h) ∙ ap f (omega arith)
+
+abbrev pub all-below : ℕ → (ℕ → Bool) → Bool
+all-below zero test = true
+all-below (suc n) test = test n && all-below n test
+
+pub at-each : (n : ℕ) (test : ℕ → Bool) → T (all-below n test) → (i : ℕ) → i < n → T (test i)
+at-each zero test t i h = absurd (not-suc-le-zero h)
+at-each (suc n) test t i h = pick (decLt i n) (at-each n test (and-r (test n) (all-below n test) t) i)
+  where
+    pick : Dec (i < n) → (i < n → T (test i)) → T (test i)
+    pick (yes l) earlier = earlier l
+    pick (no g) earlier = let e : n ≡ i = omega arith in subst (λ (m : ℕ). T (test m)) e (and-l (test n) (all-below n test) t)

@@ -1,0 +1,6 @@
+pub mod Composition
+pub mod Exact
+pub mod First
+pub mod Given
+pub mod Names
+pub mod Runs

@@ -1,0 +1,28 @@
+// Mountings: their names, one after another, undone, and vectors turned by them.
+pub mod names; // names.rt: write_name, read_name
+pub mod runs; // runs.rt: turn_run
+pub mod table; // table.rt: compose, inverse
+
+use answer::Answer;
+use math::Vector;
+pub use names::read_name;
+pub use names::write_name;
+pub use runs::turn_run;
+pub use table::compose;
+pub use table::inverse;
+ghost use Rattle.answer.specs.Answers.{Answers};
+ghost use Rattle.math.specs.Mounting.{turnOf};
+ghost use Rattle.math.specs.Turned.{turnChecks, turnedAnswer};
+
+// A mounting's number, or a refusal's.
+pub enum Mounting {
+    Number(u8),
+    Refused(u8),
+}
+
+// A sensor's vector in body axes: refused with 4 for a number above 23, then with 5 for a vector that is not finite.
+pub fn remap(sensor: Vector, mounting: u8) -> Answer
+    ensures { λ r. ⌜ Answers (turnChecks sensor mounting) (turnedAnswer (turnOf mounting sensor)) r ⌝ }
+{
+    sensor.turned(mounting)
+}

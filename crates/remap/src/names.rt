@@ -1,0 +1,83 @@
+// The names of the mountings, six bytes each.
+use super::Mounting;
+ghost use mathlib.Core.Path.{_≡_};
+ghost use Prim.Native.Nat.{_<_};
+ghost use lib.ListN.{length, getD};
+ghost use Rattle.remap.specs.Given.{Gives};
+ghost use Rattle.remap.specs.Names.{nameOf, same, namedBy, readChecks, NameWritten};
+
+// In the order of `RemapAlignment::ALL`.
+const NAMES: [u8; 144] = *b"\
+    +X+Y+Z+X-Z+Y+X-Y-Z+X+Z-Y\
+    -X+Y-Z-X+Z+Y-X-Y+Z-X-Z-Y\
+    +Y-X+Z+Y-Z-X+Y+X-Z+Y+Z+X\
+    -Y+X+Z-Y-Z+X-Y-X-Z-Y+Z-X\
+    +Z+Y-X+Z+X+Y+Z-Y+X+Z-X-Y\
+    -Z+Y+X-Z-X+Y-Z-Y-X-Z+X-Y";
+
+// The k-th byte of a name. Only this reads the table, so that no other proof has it in its goals.
+fn byte_of(mounting: u8, k: usize) -> u8
+    requires { ⌜ (mounting < 24) × (k < 6) ⌝ }
+    ensures { λ r. ⌜ r ≡ getD (nameOf mounting) k 0 ⌝ }
+{
+    let at = (mounting as usize) * 6 + k;
+    NAMES[at]
+}
+
+// Stores a name where it has just room.
+fn put_name(mounting: u8, name: &mut [u8])
+    requires { ⌜ (mounting < 24) × (length (now name) ≡ 6) ⌝ }
+    ensures { λ _. ⌜ now (name .exit) ≡ nameOf mounting ⌝ }
+{
+    let mut k = 0;
+    while k < 6 {
+        name[k] = byte_of(mounting, k);
+        k += 1;
+    }
+}
+
+// Writes the name of a mounting; a refused call leaves the buffer as it was.
+pub fn write_name(mounting: u8, name: &mut [u8]) -> u8
+    ensures { λ r. ⌜ NameWritten mounting (now (name .entry)) (now (name .exit)) r ⌝ }
+{
+    if name.len() != 6 {
+        return 1;
+    }
+    if mounting > 23 {
+        return 4;
+    }
+    put_name(mounting, name);
+    0
+}
+
+// Whether six bytes are the name of a mounting.
+fn is_name(name: &[u8], mounting: u8) -> bool
+    requires { ⌜ (length (now name) ≡ 6) × (mounting < 24) ⌝ }
+    ensures { λ r. ⌜ r ≡ same (now (name .entry)) (nameOf mounting) ⌝ }
+{
+    let mut k = 0;
+    while k < 6 {
+        if name[k] != byte_of(mounting, k) {
+            return false;
+        }
+        k += 1;
+    }
+    true
+}
+
+// The mounting that the bytes name.
+pub fn read_name(name: &[u8]) -> Mounting
+    ensures { λ r. ⌜ Gives (readChecks (now (name .entry))) (namedBy (now (name .entry))) r ⌝ }
+{
+    if name.len() != 6 {
+        return Mounting::Refused(1);
+    }
+    let mut mounting = 0u8;
+    while mounting < 24 {
+        if is_name(name, mounting) {
+            return Mounting::Number(mounting);
+        }
+        mounting += 1;
+    }
+    Mounting::Refused(4)
+}
