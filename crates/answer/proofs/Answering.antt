@@ -1,7 +1,8 @@
 -- What a return of a call has to show, from the tests that led to it: which check fails, and the answer or the state then. Assumes nothing.
 use Prim.Native.Nat.{ℕ, zero, suc}
 use mathlib.Core.Path.{_≡_, refl, sym, ap, _∙_}
-use mathlib.Core.Bool.{Bool, true, false}
+use native.Mathlib.Omega.{arith}
+use mathlib.Core.Bool.{Bool, true, false, not}
 use mathlib.Core.List.{List, [], _∷_}
 use Rattle.answer.specs.declared.Answer.{Answer}
 use Rattle.answer.specs.declared.Answer.the-variants.{Refused}
@@ -21,6 +22,12 @@ passes n cs e = rw e
 pub all-pass : refusalOf [] ≡ 0
 unfolding refusalOf
 all-pass = refl
+
+-- checks that give no number: the first does not fail, and neither do the others
+pub passed : (k : ℕ) (p : Bool) (cs : List Check) → refusalOf (check (suc k) (not p) ∷ cs) ≡ 0 → (p ≡ true) × (refusalOf cs ≡ 0)
+unfolding refusalOf
+passed k true cs e = (refl, e)
+passed k false cs e = absurd (omega arith)
 
 -- ---- the answer, for any type of answers whose refusals carry their number alone
 
