@@ -1,2 +1,3 @@
 pub mod Arms
+pub mod Turning
 mod Wrong

@@ -6,7 +6,9 @@ use lib.Dec.{ltb}
 use Rattle.answer.specs.declared.Answer.{Answer}
 use Rattle.answer.specs.declared.Answer.the-variants.{Turned}
 use Rattle.answer.specs.Refusals.{Check, check, Exactly}
+use Rattle.number.specs.Same.{Same}
 use Rattle.math.specs.declared.vector.Vector.{Vector}
+use Rattle.math.specs.Mounting.{Mounting, turn}
 use Rattle.math.specs.Vectors.{finiteVector}
 
 abbrev pub turnChecks : Vector → ℕ → List Check
@@ -18,3 +20,9 @@ turnedAnswer v = Turned (v .x) (v .y) (v .z)
 -- the table's law of them
 abbrev pub ExactlyWhen : Type 0
 ExactlyWhen = (v : Vector) (n : ℕ) → Exactly (turnChecks v n)
+
+-- w is v turned by m, zero's sign ignored
+pub record TurnedBy (m : Mounting) (v w : Vector) : Type 0 where
+  pub x : Same (w .x) (turn m v .x)
+  pub y : Same (w .y) (turn m v .y)
+  pub z : Same (w .z) (turn m v .z)

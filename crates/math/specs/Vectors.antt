@@ -1,10 +1,11 @@
 -- What each method of a vector gives, in the operation order of the Rust's math/vector.rs.
-use mathlib.Core.Bool.{Bool, cond, _&&_}
+use mathlib.Core.Bool.{Bool, cond, _&&_, _||_}
 use mathlib.Core.List.{List, [], _∷_}
 use lib.ListN.{getD}
-use lib.Ieee.{Float, nan, eq, neg}
+use lib.Ieee.{Float, nan, eq, lt, neg}
 use lib.Ieee.Scale.{finite}
 use Rattle.number.specs.Float32.{_⊕_, _⊖_, _⊗_, _⊘_, zero, one}
+use Rattle.number.specs.Same.{fabsfOf}
 use Rattle.root.specs.Root.{sqrtOf}
 use Rattle.math.specs.declared.vector.Vector.{Vector}
 
@@ -23,6 +24,13 @@ eqOf v w = eq (v .x) (w .x) && eq (v .y) (w .y) && eq (v .z) (w .z)
 -- either sign of zero
 abbrev pub isZeroOf : Vector → Bool
 isZeroOf v = eq (v .x) zero && eq (v .y) zero && eq (v .z) zero
+
+-- x is larger in size than the limit
+abbrev pub larger : Float → Float → Bool
+larger limit x = lt limit (fabsfOf x)
+
+unfoldable pub exceedsOf : Vector → Float → Bool
+exceedsOf v limit = larger limit (v .x) || larger limit (v .y) || larger limit (v .z)
 
 abbrev pub sumOf : Vector → Float
 sumOf v = v .x ⊕ v .y ⊕ v .z

@@ -1,6 +1,6 @@
 // A vector of three f32: the Rust's math/vector.rs, its operators as named methods.
 ghost use mathlib.Core.Path.{_≡_};
-ghost use Rattle.math.specs.Vectors.{vector, finiteVector, eqOf, isZeroOf, sumOf, hadamardOf, dotOf, crossOf, normSquaredOf, normOf, normalizeOf, addOf, subOf, negOf, mulOf, fromArrayOf, toArrayOf};
+ghost use Rattle.math.specs.Vectors.{vector, finiteVector, eqOf, isZeroOf, exceedsOf, sumOf, hadamardOf, dotOf, crossOf, normSquaredOf, normOf, normalizeOf, addOf, subOf, negOf, mulOf, fromArrayOf, toArrayOf};
 
 pub struct Vector {
     pub x: f32,
@@ -45,6 +45,15 @@ impl Vector {
         ensures { λ r. ⌜ r ≡ isZeroOf self ⌝ }
     {
         (self.x == 0.0) & (self.y == 0.0) & (self.z == 0.0)
+    }
+
+    // Whether some component is larger in size than the limit.
+    pub fn exceeds(self, limit: f32) -> bool
+        ensures { λ r. ⌜ r ≡ exceedsOf self limit ⌝ }
+    {
+        (number::fabsf(self.x) > limit)
+            | (number::fabsf(self.y) > limit)
+            | (number::fabsf(self.z) > limit)
     }
 
     pub fn sum(self) -> f32

@@ -1,0 +1,7 @@
+pub mod Steps
+pub mod Covered
+pub mod Finite
+pub mod Refusing
+pub mod Symmetry
+mod Walk
+mod Wrong

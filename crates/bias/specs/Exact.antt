@@ -1,0 +1,14 @@
+-- 01, "The refusal table": of every call here each number is given exactly when its row says.
+use Rattle.answer.specs.Refusals.{Exactly}
+use Rattle.math.specs.declared.vector.Vector.{Vector}
+use Rattle.bias.specs.declared.BiasSettings.{BiasSettings}
+use Rattle.bias.specs.declared.Bias.{Bias}
+use Rattle.bias.specs.Calls.{startChecks, readingChecks, offsetChecks, stateChecks, settingsChecks}
+
+pub record ExactlyWhen : Type 0 where
+  pub start : (s : BiasSettings) → Exactly (startChecks s)
+  pub reading : (b : Bias) (g : Vector) → Exactly (readingChecks b g)
+  pub set-offset : (b : Bias) (v : Vector) → Exactly (offsetChecks b v)
+  pub set-settings : (b : Bias) (s : BiasSettings) → Exactly (settingsChecks b s)
+  -- restart and the three calls that read
+  pub of-the-state : (b : Bias) → Exactly (stateChecks b)

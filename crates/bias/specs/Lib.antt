@@ -1,0 +1,7 @@
+pub mod Settings
+pub mod Estimator
+pub mod Calls
+pub mod Exact
+pub mod Runs
+pub mod Reached
+pub mod Symmetry
