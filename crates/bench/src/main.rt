@@ -3,7 +3,15 @@
 mod roots;
 mod still;
 
+use bias::Bias;
+use bias::BiasSettings;
+use bias::Started;
 use libc::STDOUT_FILENO;
+use math::Vector;
+use offset::RecordRead;
+
+// The bench table's record: offset (1, -2, 0.5) under mounting 11.
+const RECORD: [u8; 18] = *b"GOF\x01\x00\x0b\x00\x00\x80\x3f\x00\x00\x00\xc0\x00\x00\x00\x3f";
 
 fn say(text: &[u8]) {
     io::write_all(STDOUT_FILENO, text);
@@ -32,8 +40,77 @@ fn print_still(name: &[u8], stationary_period: f32) {
     say(b"\n");
 }
 
+fn bits(x: f32) {
+    say(b" ");
+    io::print_hex(STDOUT_FILENO, wire::bits_of(x) as u64, 8);
+}
+
+fn vector(v: Vector) {
+    bits(v.x);
+    bits(v.y);
+    bits(v.z);
+}
+
+fn refused(number: u8) {
+    say(b" refused ");
+    count(number as u64);
+}
+
+fn print_record(name: &[u8], bytes: &[u8]) {
+    say(name);
+    say(b":");
+    match offset::read_offset(bytes) {
+        RecordRead::Read(held) => {
+            let v = held.vector;
+            vector(v);
+            say(b" under mounting ");
+            count(held.mounting as u64);
+        }
+        RecordRead::Refused(number) => refused(number),
+    }
+    say(b"\n");
+}
+
+// Restores the record into a fresh estimator.
+fn print_restored(bytes: &[u8], mounting: u8) {
+    let started = Bias::with_settings(BiasSettings {
+        sample_rate: 100.0,
+        stationary_threshold: 3.0,
+        stationary_period: 3.0,
+        cutoff_frequency: 0.02,
+    });
+    let Started::Fresh(fresh) = started else {
+        return;
+    };
+    let change = offset::restore(fresh, bytes, mounting);
+    say(b"record restored under mounting ");
+    count(mounting as u64);
+    say(b":");
+    if change.number == 0 {
+        let state = change.state;
+        let v = state.offset;
+        vector(v);
+    } else {
+        refused(change.number);
+    }
+    say(b"\n");
+}
+
+fn print_records() {
+    let mut longer = [0u8; 19];
+    bytes::copy(&RECORD, &mut longer);
+    let mut unknown = RECORD;
+    unknown[5] = 24;
+    print_record(b"record", &RECORD);
+    print_restored(&RECORD, 0);
+    print_record(b"record of 17 bytes", &RECORD[..17]);
+    print_record(b"record of 19 bytes", &longer);
+    print_record(b"record of mounting 24", &unknown);
+}
+
 fn main() {
     print_roots();
     print_still(b"bias timeout 300", 3.0);
     print_still(b"bias timeout 0", 0.0);
+    print_records();
 }

@@ -1,0 +1,16 @@
+-- The rows of every call ascend, so the law of the refusal table holds of them. Assumes nothing.
+use mathlib.Core.Bool.{true}
+use Rattle.answer.specs.Refusals.{ascends}
+use Rattle.answer.proofs.Table.{by-the-table}
+use Rattle.bias.specs.Estimator.{finiteBias}
+use Rattle.offset.specs.Record.{recordChecks, writeChecks}
+use Rattle.offset.specs.Exact.{ExactlyWhen}
+
+pub exactly-when : ExactlyWhen
+unfolding ascends recordChecks
+exactly-when =
+    record {
+      write-offset = λ o s. by-the-table (writeChecks o s) tt;
+      read-offset = λ s. by-the-table (recordChecks s 0 true) tt;
+      restore = λ b s m. by-the-table (recordChecks s m (finiteBias b)) tt;
+    }

@@ -1,0 +1,49 @@
+-- What each return of a restore has to show, from the tests that led to it. Assumes nothing.
+use Prim.Native.Nat.{ℕ, zero, suc, _<_}
+use mathlib.Core.Path.{_≡_, refl, ap, sym, subst, _∙_}
+use mathlib.Core.Bool.{Bool, true}
+use mathlib.Core.List.{List, []}
+use Rattle.answer.specs.Refusals.{refusalOf, accepted}
+use Rattle.answer.proofs.Answering.{passes, all-pass, keeps}
+use Rattle.math.specs.declared.vector.Vector.{Vector}
+use Rattle.math.specs.Vectors.{finiteVector}
+use Rattle.bias.specs.declared.Bias.{Bias}
+use Rattle.bias.specs.declared.Change.{Change}
+use Rattle.bias.specs.Estimator.{finiteBias}
+use Rattle.bias.specs.Calls.{offsetChecks, SetsOffset}
+use Rattle.offset.specs.declared.Offset.{Offset}
+use Rattle.offset.specs.Record.{mountingAt, vectorAt, offsetAt, recordChecks}
+use Rattle.offset.specs.Restore.{reframedOf, restoreChecks, restoredOf, Restores}
+use Rattle.offset.proofs.Accepting.{Good, good}
+use Rattle.offset.proofs.Turning.{finite-reframed}
+
+-- f is whether the state is finite, n the refusal
+module _ (b : Bias) (s : List ℕ) (m : ℕ) {f : Bool} {n : ℕ} (ef : f ≡ finiteBias b) (en : n ≡ refusalOf (recordChecks s m f)) where
+  number : n ≡ refusalOf (restoreChecks b s m)
+  number = en ∙ ap (λ (g : Bool). refusalOf (recordChecks s m g)) ef
+
+  pub kept : (n ≡ 0 → ⊥) → Restores b s m (record { state = b; number = n })
+  kept h = by n number h
+    where
+      by : (k : ℕ) → k ≡ refusalOf (restoreChecks b s m) → (k ≡ 0 → ⊥) → Restores b s m (record { state = b; number = k })
+      by zero p g = absurd (g refl)
+      by (suc k) p g = keeps (restoreChecks b s m) (restoredOf b s m) b k (sym p)
+
+  module _ (z : n ≡ 0) where
+    pub checked : Good s m (finiteBias b)
+    checked = good s m (finiteBias b) (sym number ∙ z)
+
+    -- setting a turned offset is not refused a second time
+    unrefused : refusalOf (offsetChecks b (reframedOf (vectorAt s) (mountingAt s) m)) ≡ 0
+    unrefused =
+        passes 5 [] (rw (checked .state, finite-reframed (vectorAt s) (mountingAt s) m, checked .floats)) ∙ all-pass
+
+    module _ {o : Offset} (eo : o ≡ offsetAt s) where
+      pub turnable : (o .mounting < 24) × (m < 24) × (finiteVector (o .vector) ≡ true)
+      turnable = rw eo (checked .mounting, checked .other, checked .floats)
+
+      pub restored : {v : Vector} {r : Change} → v ≡ reframedOf (o .vector) (o .mounting) m → SetsOffset b v r → Restores b s m r
+      restored {v} {r} e p =
+          let q = subst (λ (w : Vector). SetsOffset b w r) (rw eo at e) p in
+          let u = unrefused ∙ sym (sym number ∙ z) in
+          record { number = q .number ∙ u; holds = q .holds ∙ ap (λ (k : ℕ). accepted k (restoredOf b s m) b) u }

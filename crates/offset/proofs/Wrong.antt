@@ -1,0 +1,95 @@
+-- Wrong answers that the promises refuse, each by evaluation. Assumes nothing.
+use Prim.Native.Nat.{ℕ}
+use native.Mathlib.Omega.{arith}
+use mathlib.Core.Path.{_≡_, ap}
+use mathlib.Core.Bool.{true, false, cond}
+use mathlib.Core.List.{List, [], _∷_}
+use lib.IntN.{pos}
+use lib.ListN.{getD}
+use lib.Ieee.{Float, nan, inf, fin, ofBits, toBits}
+use Rattle.answer.specs.Refusals.{refusalOf}
+use Rattle.math.specs.Vectors.{vector, finiteVector}
+use Rattle.math.specs.Mounting.{mountingOf}
+use Rattle.remap.specs.First.{first}
+use Rattle.remap.specs.Names.{nameOf, same}
+use Rattle.remap.specs.Composition.{composeOf, inverseOf}
+use Rattle.bias.specs.declared.Bias.{Bias}
+use Rattle.bias.specs.declared.Change.{Change}
+use Rattle.bias.specs.Estimator.{finiteBias, withTimer, withOffset}
+use Rattle.bias.specs.Settings.{finiteSettings}
+use Rattle.offset.specs.declared.Offset.{Offset}
+use Rattle.offset.specs.declared.RecordRead.{RecordRead}
+use Rattle.offset.specs.declared.RecordRead.the-variants.{Read, Refused}
+use Rattle.offset.specs.Record.{hasMark, vectorAt, recordOf, recordChecks, Reads, Writes}
+use Rattle.offset.specs.Restore.{reframedOf, Restores}
+use Rattle.offset.proofs.Bench.{one, minusTwo, half, recordWith, row, rowOffset}
+
+abbrev mountingIn : RecordRead → ℕ
+mountingIn (Read o) = o .mounting
+mountingIn (Refused n) = 0
+
+-- the mounting left out; mounting 24 taken; a number that no check gives
+pub of-read-offset
+    : (Reads row (Read (record { mounting = 0; vector = vector one minusTwo half })) → ⊥)
+    × (Reads (recordWith 24 (0x3F ∷ [])) (Read (record { mounting = 24; vector = vector one minusTwo half })) → ⊥)
+    × (Reads row (Refused 5) → ⊥)
+unfolding refusalOf recordChecks hasMark vectorAt finiteVector ofBits
+of-read-offset = (
+  λ h. let z : _≡_ {A = ℕ} 0 11 = ap mountingIn (h .exact) in omega arith,
+  λ h. let e = h .number in omega arith,
+  λ h. let e = h .number in omega arith,
+)
+
+abbrev blank : List ℕ
+blank = 0 ∷ 0 ∷ 0 ∷ 0 ∷ 0 ∷ 0 ∷ 0 ∷ 0 ∷ 0 ∷ 0 ∷ 0 ∷ 0 ∷ 0 ∷ 0 ∷ 0 ∷ 0 ∷ 0 ∷ 0 ∷ []
+
+abbrev zeros : Float → Offset
+zeros x = record { mounting = 0; vector = vector x (fin false 0 (pos 0)) (fin false 0 (pos 0)) }
+
+-- nothing written; a refused call that writes; an infinity taken; minus zero written as zero
+pub of-write-offset
+    : (Writes rowOffset blank blank 0 → ⊥)
+    × (Writes (zeros (inf false)) blank row 5 → ⊥)
+    × (Writes (zeros (inf false)) blank blank 0 → ⊥)
+    × (Writes (zeros (fin true 0 (pos 0))) blank (recordOf (zeros (fin false 0 (pos 0)))) 0 → ⊥)
+unfolding refusalOf recordOf finiteVector toBits
+of-write-offset = (
+  λ h. let z : _≡_ {A = ℕ} 0 0x47 = ap (λ (l : List ℕ). getD l 0 0) (h .holds) in omega arith,
+  λ h. let z : _≡_ {A = ℕ} 0x47 0 = ap (λ (l : List ℕ). getD l 0 0) (h .holds) in omega arith,
+  λ h. let e = h .number in omega arith,
+  λ h. let z : _≡_ {A = ℕ} 0 0x80 = ap (λ (l : List ℕ). getD l 9 0) (h .holds) in omega arith,
+)
+
+-- an estimator with a timer that runs, and an offset of its own
+abbrev running : Bias
+running =
+    record {
+      settings = record { «sample_rate» = one; «stationary_threshold» = one; «stationary_period» = one; «cutoff_frequency» = one };
+      «filter_coefficient» = one;
+      timeout = 9;
+      timer = 7;
+      offset = vector one one one;
+    }
+
+abbrev gives : Bias → ℕ → Change
+gives b n = record { state = b; number = n }
+
+-- 1 for a number with a minus sign
+abbrev minus : Float → ℕ
+minus nan = 0
+minus (inf s) = 0
+minus (fin s m e) = cond s 1 0
+
+-- the offset as it was recorded; the recorded mounting applied, not undone; the timer cleared; a refused call that restores
+pub of-restore
+    : (Restores running row 0 (gives (withOffset running (vector one minusTwo half)) 0) → ⊥)
+    × (Restores running row 0 (gives (withOffset running (vector minusTwo half one)) 0) → ⊥)
+    × (Restores running row 0 (gives (withOffset (withTimer running 0) (vector half one minusTwo)) 0) → ⊥)
+    × (Restores running row 24 (gives (withOffset running (vector half one minusTwo)) 4) → ⊥)
+unfolding refusalOf recordChecks hasMark vectorAt finiteVector finiteBias finiteSettings reframedOf inverseOf composeOf first same nameOf mountingOf ofBits
+of-restore = (
+  λ h. let z : _≡_ {A = ℕ} 1 0 = ap (λ (b : Bias). minus (b .offset .y)) (h .holds) in omega arith,
+  λ h. let z : _≡_ {A = ℕ} 1 0 = ap (λ (b : Bias). minus (b .offset .x)) (h .holds) in omega arith,
+  λ h. let z : _≡_ {A = ℕ} 0 7 = ap (λ (b : Bias). b .timer) (h .holds) in omega arith,
+  λ h. let z : _≡_ {A = ℕ} 1 0 = ap (λ (b : Bias). minus (b .offset .z)) (h .holds) in omega arith,
+)

@@ -1,0 +1,56 @@
+-- `offset::put_offset` meets its contract, store by store. Assumes nothing.
+use native.Mathlib.Omega.{arith}
+use mathlib.Core.Path.{_∙_}
+use lib.ListN.{length-set}
+use Rattle.offset.proofs.Storing.{puts}
+use borrow.Author.Needs.{needs}
+use Rattle.offset.proofs.put_offset.Statement.{statement}
+use Rattle.offset.proofs.put_offset.Tie as tie
+
+slice-write-bytes : tie.Need-slice-write-bytes
+slice-write-bytes c = search needs
+
+slice-write-bytes-2 : tie.Need-slice-write-bytes-2
+slice-write-bytes-2 c = search needs
+
+slice-write-bytes-3 : tie.Need-slice-write-bytes-3
+slice-write-bytes-3 c = search needs
+
+slice-write-bytes-4 : tie.Need-slice-write-bytes-4
+slice-write-bytes-4 c = omega (arith, simp length-set at (c .before .before .put-u16 .kept .0))
+
+same-length : tie.Need-same-length
+same-length c =
+    let z = c .before .before in
+    let y = z .before .before .before .before .before in
+    let x = y .before .before .before .before .before in
+    let v = x .before .before .before .before .before in
+    z .put-bits3 .kept .0 ∙ y .put-bits2 .kept .0 ∙ x .put-bits .kept .0 ∙ simp length-set (v .put-u16 .kept .0 ∙ simp length-set)
+
+returns : tie.Need-returns
+returns c =
+    let z = c .before .before in
+    let y = z .before .before .before .before .before in
+    let x = y .before .before .before .before .before in
+    let v = x .before .before .before .before .before in
+    let s = v .before .before .before .before in
+    puts (s .args .offset) (s .args .bytes .now) (s .pre) (v .put-u16 .ensures)
+    (x .before .bits-of .ensures) (x .put-bits .ensures) (y .before .bits-of2 .ensures) (y .put-bits2 .ensures) (z .before .bits-of3 .ensures) (z .put-bits3 .ensures)
+
+pub put-offset-spec : {M : Type 1} → statement M
+put-offset-spec =
+    tie.close
+    (tie.spec
+    slice-write-bytes
+    slice-write-bytes-2
+    slice-write-bytes-3
+    (λ c κs. tt)
+    slice-write-bytes-4
+    (λ c κs. tt)
+    (λ c κs. tt)
+    (λ c κs. tt)
+    (λ c κs. tt)
+    (λ c κs. tt)
+    (λ c κs. tt)
+    same-length
+    returns)

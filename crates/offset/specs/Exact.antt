@@ -1,0 +1,13 @@
+-- 01, "The refusal table": of every call here each number is given exactly when its row says.
+use Prim.Native.Nat.{ℕ}
+use mathlib.Core.List.{List}
+use Rattle.answer.specs.Refusals.{Exactly}
+use Rattle.bias.specs.declared.Bias.{Bias}
+use Rattle.offset.specs.declared.Offset.{Offset}
+use Rattle.offset.specs.Record.{readChecks, writeChecks}
+use Rattle.offset.specs.Restore.{restoreChecks}
+
+pub record ExactlyWhen : Type 0 where
+  pub write-offset : (o : Offset) (s : List ℕ) → Exactly (writeChecks o s)
+  pub read-offset : (s : List ℕ) → Exactly (readChecks s)
+  pub restore : (b : Bias) (s : List ℕ) (m : ℕ) → Exactly (restoreChecks b s m)

@@ -1,0 +1,4 @@
+pub mod Exact
+pub mod Record
+pub mod Restore
+pub mod RoundTrip

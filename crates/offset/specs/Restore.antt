@@ -1,0 +1,47 @@
+-- 01, "Bias": restoring under mounting B sets the estimator's offset to the recorded one turned by the inverse of the recorded mounting and then by B.
+use Prim.Native.Nat.{ℕ}
+use mathlib.Core.Path.{_≡_}
+use mathlib.Core.List.{List}
+use Rattle.answer.specs.Refusals.{Check, Changed}
+use Rattle.math.specs.declared.vector.Vector.{Vector}
+use Rattle.math.specs.Mounting.{turnOf}
+use Rattle.remap.specs.Composition.{inverseOf}
+use Rattle.bias.specs.declared.Bias.{Bias}
+use Rattle.bias.specs.declared.Change.{Change}
+use Rattle.bias.specs.Estimator.{finiteBias, withOffset}
+use Rattle.offset.specs.Record.{mountingAt, vectorAt, recordChecks}
+
+unfoldable pub reframedOf : Vector → ℕ → ℕ → Vector
+reframedOf v from to = turnOf to (turnOf (inverseOf from) v)
+
+-- either mounting number under 4, the floats of state and record under 5
+abbrev pub restoreChecks : Bias → List ℕ → ℕ → List Check
+restoreChecks b s m = recordChecks s m (finiteBias b)
+
+abbrev pub restoredOf : Bias → List ℕ → ℕ → Bias
+restoredOf b s m = withOffset b (reframedOf (vectorAt s) (mountingAt s) m)
+
+abbrev pub Restores : Bias → List ℕ → ℕ → Change → Type 0
+Restores b s m r = Changed (restoreChecks b s m) (restoredOf b s m) b (r .state) (r .number)
+
+-- ---- the statements
+
+-- restoring twice equals restoring once: from any state, any bytes, any mounting number
+abbrev pub RestoredOnce : Type 0
+RestoredOnce =
+    (b : Bias) (s : List ℕ) (m : ℕ) (first second : Change) → Restores b s m first → Restores (first .state) s m second
+    → (second .state ≡ first .state) × (second .number ≡ first .number)
+
+-- all but the offset stays, whether the call is accepted or refused
+pub record Untouched (b after : Bias) : Type 0 where
+  pub settings : after .settings ≡ b .settings
+  pub coefficient : after .«filter_coefficient» ≡ b .«filter_coefficient»
+  pub timeout : after .timeout ≡ b .timeout
+  pub timer : after .timer ≡ b .timer
+
+abbrev pub OnlyTheOffset : Type 0
+OnlyTheOffset = (b : Bias) (s : List ℕ) (m : ℕ) (r : Change) → Restores b s m r → Untouched b (r .state)
+
+-- under the mounting that was recorded the offset is the recorded one, bit for bit
+abbrev pub SameMounting : Type 0
+SameMounting = (b : Bias) (s : List ℕ) (r : Change) → Restores b s (mountingAt s) r → r .number ≡ 0 → r .state .offset ≡ vectorAt s
