@@ -1,6 +1,6 @@
 -- What a return of a call has to show, from the tests that led to it: which check fails, and the answer or the state then. Assumes nothing.
 use Prim.Native.Nat.{ℕ, zero, suc}
-use mathlib.Core.Path.{_≡_, refl, sym, ap, _∙_}
+use mathlib.Core.Path.{_≡_, refl, sym, ap, subst, _∙_}
 use native.Mathlib.Omega.{arith}
 use mathlib.Core.Bool.{Bool, true, false, not}
 use mathlib.Core.List.{List, [], _∷_}
@@ -28,6 +28,11 @@ pub passed : (k : ℕ) (p : Bool) (cs : List Check) → refusalOf (check (suc k)
 unfolding refusalOf
 passed k true cs e = (refl, e)
 passed k false cs e = absurd (omega arith)
+
+pub unfailed : (k : ℕ) (b : Bool) (cs : List Check) → refusalOf (check (suc k) b ∷ cs) ≡ 0 → (b ≡ false) × (refusalOf cs ≡ 0)
+unfolding refusalOf
+unfailed k true cs e = absurd (omega arith)
+unfailed k false cs e = (refl, e)
 
 -- ---- the answer, for any type of answers whose refusals carry their number alone
 
@@ -67,6 +72,9 @@ keeps cs new old k e = record { number = sym e; holds = ap (λ (n : ℕ). accept
 
 pub changes : {A : Type 0} (cs : List Check) (new old : A) → refusalOf cs ≡ 0 → Changed cs new old new 0
 changes cs new old e = record { number = sym e; holds = ap (λ (n : ℕ). accepted n new old) (sym e) }
+
+pub writes : {A : Type 0} (cs : List Check) (new old : A) {now : A} → refusalOf cs ≡ 0 → now ≡ new → Changed cs new old now 0
+writes {A} cs new old e f = subst (λ (x : A). Changed cs new old x 0) (sym f) (changes cs new old e)
 
 -- ---- a promise has one result
 

@@ -1,3 +1,4 @@
 pub mod Table
+pub mod Tests
 pub mod Answering
 mod Wrong

@@ -1,10 +1,11 @@
 -- What each return of the estimator's calls has to show, from the tests that led to it. Assumes nothing.
-use mathlib.Core.Path.{_≡_, refl, sym, ap, ap₂, subst, subst₂, _∙_}
+use mathlib.Core.Path.{_≡_, refl, sym, ap, subst, subst₂, _∙_}
 use mathlib.Core.Bool.{Bool, true, false, not, _&&_}
 use Prim.Native.Nat.{ℕ, suc, _+_, _<_, _≤_}
 use lib.Ieee.{Float}
 use lib.Ieee.Scale.{finite}
 use borrow.Author.Tests.{lt-ltb, le-ltb}
+use Rattle.answer.proofs.Tests.{one, two}
 use Rattle.answer.specs.declared.Answer.the-variants.{Refused}
 use Rattle.answer.specs.Refusals.{refusalOf, accepted}
 use Rattle.answer.specs.Answers.{numberOf, valuesOf}
@@ -17,13 +18,6 @@ use Rattle.bias.specs.declared.Started.the-variants.{Fresh, Refused as N
 use Rattle.bias.specs.Settings.{coefficientOf, timeoutOf, finiteSettings, aboveZero}
 use Rattle.bias.specs.Estimator.{finiteBias, freshOf, withTimer, withOffset, withSettings, correctedOf, advancedOf}
 use Rattle.bias.specs.Calls.{startChecks, startNumber, startValues, Starts, readingChecks, ratesOf, Reads, settingsChecks, SetsSettings}
-
--- what a test of calls says of their definitions
-pub one : {r p v : Bool} → r ≡ p → not r ≡ v → not p ≡ v
-one e h = ap not (sym e) ∙ h
-
-pub two : {r s p q v : Bool} → r ≡ p → s ≡ q → not (r && s) ≡ v → not (p && q) ≡ v
-two e f h = ap not (sym (ap₂ _&&_ e f)) ∙ h
 
 -- ---- a start
 

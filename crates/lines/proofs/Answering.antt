@@ -9,6 +9,7 @@ use lib.Ieee.{nan}
 use lib.ListN.{length, getD, take, drop, length-drop}
 use lib.Seq.{length-take-le}
 use borrow.Author.Tests.{ltb-false}
+use Rattle.answer.proofs.Tests.{agrees, differs, neither}
 use Rattle.answer.specs.Refusals.{Check, check, refusalOf, accepted}
 use Rattle.answer.proofs.Answering.{fails, passes, all-pass}
 use Rattle.math.specs.Vectors.{vector}
@@ -16,7 +17,6 @@ use Rattle.remap.specs.declared.Mounting.the-variants.{Number, Refused}
 use Rattle.remap.specs.Given.{givenOf}
 use Rattle.remap.specs.Names.{namedBy, readOf}
 use Rattle.remap.specs.Composition.{composeOf}
-use Rattle.remap.proofs.Giving.{differs, agrees, neither}
 use Rattle.remap.proofs.Composing.{composes}
 use Rattle.lines.specs.Rule.{firstName, secondName, lineChecks, answerOf, bothOf}
 use Rattle.lines.specs.Feeding.{Printable}

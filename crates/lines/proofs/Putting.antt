@@ -7,11 +7,11 @@ use lib.ListN.{length, take, drop, set, length-append, length-drop, drop-of-leng
 use lib.Seq.{drop-cons, drop-drop, length-take-le, take-all, take-append-seam, drop-append-seam}
 use borrow.Author.Tests.{le-ltb}
 use borrow.Rule.Slice.PartMut.{midOf, postOf, putMid}
+use Rattle.answer.proofs.Tests.{agrees}
 use Rattle.answer.specs.Refusals.{refusalOf, accepted}
 use Rattle.answer.proofs.Answering.{passes, all-pass}
 use Rattle.remap.specs.declared.Mounting.the-variants.{Number}
 use Rattle.remap.specs.Names.{nameOf, writeChecks, NameWritten}
-use Rattle.remap.proofs.Giving.{agrees}
 use Rattle.lines.specs.Rule.{textOf}
 use Rattle.lines.specs.Feeding.{over, Puts}
 

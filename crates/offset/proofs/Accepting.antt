@@ -1,16 +1,16 @@
 -- What an accepted record has, and that this is all it needs. Assumes nothing.
-use Prim.Native.Nat.{ℕ, suc, _<_}
+use Prim.Native.Nat.{ℕ, _<_}
 use native.Mathlib.Omega.{arith}
-use mathlib.Core.Path.{_≡_, refl, ap, sym, _∙_}
-use mathlib.Core.Bool.{Bool, true, false, not, _&&_, _||_}
-use mathlib.Core.List.{List, _∷_}
+use mathlib.Core.Path.{_≡_, ap, sym, _∙_}
+use mathlib.Core.Bool.{Bool, true, not, _&&_, _||_}
+use mathlib.Core.List.{List}
 use lib.Dec.{ltb, eqb}
 use lib.ListN.{length}
 use borrow.Author.Tests.{eqb-true, ltb-false, le-ltb}
-use Rattle.answer.specs.Refusals.{Check, check, refusalOf, accepted}
-use Rattle.answer.proofs.Answering.{passed}
+use Rattle.answer.proofs.Tests.{both, neither}
+use Rattle.answer.specs.Refusals.{refusalOf, accepted}
+use Rattle.answer.proofs.Answering.{passed, unfailed}
 use Rattle.math.specs.Vectors.{finiteVector}
-use Rattle.remap.proofs.Giving.{neither}
 use Rattle.wire.specs.Wire.{u16At}
 use Rattle.offset.specs.Record.{hasMark, mountingAt, vectorAt, recordChecks}
 use Rattle.offset.proofs.Checking.{unrefused}
@@ -23,23 +23,6 @@ pub record Good (s : List ℕ) (m : ℕ) (f : Bool) : Type 0 where
   pub mounting : mountingAt s < 24
   pub state : f ≡ true
   pub floats : finiteVector (vectorAt s) ≡ true
-
--- ---- what a test that passed says of its parts
-
-pub unfailed : (k : ℕ) (b : Bool) (cs : List Check) → refusalOf (check (suc k) b ∷ cs) ≡ 0 → (b ≡ false) × (refusalOf cs ≡ 0)
-unfolding refusalOf
-unfailed k true cs e = absurd (omega arith)
-unfailed k false cs e = (refl, e)
-
-pub both : (a b : Bool) → (a && b) ≡ true → (a ≡ true) × (b ≡ true)
-both true b e = (refl, e)
-both false b e = (e, cc)
-
-pub all-three : (a b c : Bool) → (a && b && c) ≡ true → (a ≡ true) × (b ≡ true) × (c ≡ true)
-all-three a b c e =
-    let p = both (a && b) c e in
-    let q = both a b (p .0) in
-    (q .0, q .1, p .1)
 
 -- ---- the record's checks all pass exactly where it is good
 

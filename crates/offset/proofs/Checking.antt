@@ -5,11 +5,10 @@ use mathlib.Core.Bool.{Bool, true, false, not, _&&_, _||_}
 use mathlib.Core.List.{List, [], _∷_}
 use lib.Dec.{ltb}
 use lib.ListN.{length}
+use Rattle.answer.proofs.Tests.{agrees, differs, two}
 use Rattle.answer.specs.Refusals.{check, refusalOf}
 use Rattle.answer.proofs.Answering.{fails, passes, all-pass}
-use Rattle.bias.proofs.Steps.{two}
 use Rattle.math.specs.Vectors.{finiteVector}
-use Rattle.remap.proofs.Giving.{differs, agrees}
 use Rattle.wire.specs.Wire.{u16At}
 use Rattle.offset.specs.Record.{hasMark, mountingAt, vectorAt, recordChecks}
 

@@ -4,6 +4,7 @@ use mathlib.Core.Path.{_≡_, refl, ap, ap₂, sym, subst, _∙_}
 use mathlib.Core.Bool.{true, _&&_}
 use mathlib.Core.List.{List}
 use lib.Ieee.Scale.{finite}
+use Rattle.answer.proofs.Tests.{both}
 use Rattle.answer.specs.Refusals.{refusalOf, accepted}
 use Rattle.bias.specs.declared.Bias.{Bias}
 use Rattle.bias.specs.Estimator.{finiteBias}
@@ -12,7 +13,7 @@ use Rattle.bias.specs.Settings.{finiteSettings}
 use Rattle.remap.proofs.Composing.{undone}
 use Rattle.offset.specs.Record.{mountingAt, vectorAt}
 use Rattle.offset.specs.Restore.{reframedOf, restoreChecks, restoredOf, RestoredOnce, Untouched, OnlyTheOffset, SameMounting}
-use Rattle.offset.proofs.Accepting.{both, good, good-passes, is-new}
+use Rattle.offset.proofs.Accepting.{good, good-passes, is-new}
 use Rattle.offset.proofs.Turning.{finite-reframed}
 
 -- ---- twice

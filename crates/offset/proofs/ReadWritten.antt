@@ -10,14 +10,14 @@ use lib.Ieee.{binary32, toBits}
 use lib.Ieee.Bits.{ofBits-toBits}
 use borrow.Author.Tests.{ltb-false}
 use Rattle.answer.specs.Refusals.{refusalOf}
-use Rattle.answer.proofs.Answering.{passed}
+use Rattle.answer.proofs.Answering.{passed, unfailed}
 use Rattle.math.specs.Vectors.{finiteVector}
 use Rattle.wire.proofs.Laws.{digits}
 use Rattle.offset.specs.declared.Offset.{Offset}
 use Rattle.offset.specs.declared.RecordRead.the-variants.{Read}
 use Rattle.offset.specs.Record.{hasMark, vectorAt, offsetAt, recordOf, writeChecks, Reads}
 use Rattle.offset.specs.RoundTrip.{Singles, ReadWritten}
-use Rattle.offset.proofs.Accepting.{unfailed, Good, good-passes, is-new}
+use Rattle.offset.proofs.Accepting.{Good, good-passes, is-new}
 
 module _ (o : Offset) (f : Singles (o .vector)) where
   same-vector : vectorAt (recordOf o) ≡ o .vector

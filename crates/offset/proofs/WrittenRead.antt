@@ -11,17 +11,17 @@ use lib.Ieee.Bits.{toBits-ofBits}
 use lib.Ieee.Scale.{finite}
 use denote.Floats.{passes as true-T}
 use borrow.Author.Tests.{eqb-true, le-ltb}
+use Rattle.answer.proofs.Tests.{agrees, all-three}
 use Rattle.answer.specs.Refusals.{refusalOf}
 use Rattle.answer.proofs.Answering.{passes, all-pass}
 use Rattle.math.specs.Vectors.{finiteVector}
-use Rattle.remap.proofs.Giving.{agrees}
 use Rattle.wire.specs.Wire.{bitsAt}
 use Rattle.wire.proofs.Laws.{finite-no-nan, spell, spelled}
 use Rattle.offset.specs.declared.Offset.{Offset}
 use Rattle.offset.specs.declared.RecordRead.the-variants.{Read}
 use Rattle.offset.specs.Record.{hasMark, mountingAt, vectorAt, offsetAt, bytesOf, recordOf, writeChecks, Reads}
 use Rattle.offset.specs.RoundTrip.{Bytes, WrittenRead}
-use Rattle.offset.proofs.Accepting.{all-three, Good, good, is-new}
+use Rattle.offset.proofs.Accepting.{Good, good, is-new}
 
 -- four bytes are those of the pattern that they make
 bytes-back : (a b c d : ℕ) → a < 256 → b < 256 → c < 256 → d < 256 → bytesOf (a + 256 * b + 65536 * c + 16777216 * d) ≡ a ∷ b ∷ c ∷ d ∷ []

@@ -8,6 +8,7 @@ use mathlib.Core.List.{List, [], _∷_}
 use lib.Dec.{eqb, ltb, eqb→eq}
 use lib.ListN.{length, getD, take, drop, set}
 use borrow.Author.Tests.{ltb-false, le-ltb, lt-ltb}
+use Rattle.answer.proofs.Tests.{agrees}
 use Rattle.answer.specs.Refusals.{check, refusalOf, accepted}
 use Rattle.math.specs.Mounting.{mountingOf}
 use Rattle.remap.specs.declared.Mounting.the-variants.{Number, Refused}
@@ -15,7 +16,7 @@ use Rattle.remap.specs.First.{first}
 use Rattle.remap.specs.Given.{Gives}
 use Rattle.remap.specs.Names.{nameOf, same, namedBy, readChecks, NameRead, NoOther}
 use Rattle.answer.proofs.Answering.{fails, passes, all-pass}
-use Rattle.remap.proofs.Giving.{agrees, gives-refusal, gives-number}
+use Rattle.remap.proofs.Giving.{gives-refusal, gives-number}
 use Rattle.remap.proofs.Searching.{first-passes, same-next, same-not, same-end, same-eq, copied-next, copied-all}
 use Rattle.remap.proofs.Tabled.{tabulate, tabulated, at-each}
 

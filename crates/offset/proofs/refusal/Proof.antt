@@ -1,6 +1,6 @@
 -- `offset::refusal` meets its contract: each return by the checks before it. Assumes nothing.
 use mathlib.Core.Path.{sym, _∙_}
-use Rattle.bias.proofs.Steps.{one}
+use Rattle.answer.proofs.Tests.{one}
 use Rattle.offset.proofs.Checking.{refused-1, refused-2, refused-3, refused-4, refused-5, unrefused}
 use borrow.Author.Needs.{needs}
 use Rattle.offset.proofs.refusal.Statement.{statement}

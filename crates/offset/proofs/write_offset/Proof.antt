@@ -2,9 +2,8 @@
 use native.Mathlib.Omega.{arith}
 use mathlib.Core.Path.{_∙_}
 use borrow.Author.Tests.{lt-ltb, le-ltb}
-use Rattle.answer.proofs.Answering.{fails, passes, all-pass, keeps}
-use Rattle.bias.proofs.Steps.{one}
-use Rattle.remap.proofs.Giving.{differs, agrees, writes}
+use Rattle.answer.proofs.Tests.{agrees, differs, one}
+use Rattle.answer.proofs.Answering.{fails, passes, all-pass, keeps, writes}
 use borrow.Author.Needs.{needs}
 use Rattle.offset.proofs.write_offset.Statement.{statement}
 use Rattle.offset.proofs.write_offset.Tie as tie

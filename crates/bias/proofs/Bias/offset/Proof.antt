@@ -1,9 +1,9 @@
 -- `bias::Bias::offset` meets its contract, by its one check. Assumes nothing.
 use mathlib.Core.Path.{refl, _∙_}
+use Rattle.answer.proofs.Tests.{one}
 use Rattle.answer.proofs.Answering.{fails, passes, all-pass, refuses, accepts}
 use Rattle.bias.specs.declared.reads.OffsetRead.the-variants.{Refused}
 use Rattle.bias.specs.Calls.{offsetNumber, offsetValues}
-use Rattle.bias.proofs.Steps.{one}
 use Rattle.bias.proofs.Bias.offset.Statement.{statement}
 use Rattle.bias.proofs.Bias.offset.Tie as tie
 

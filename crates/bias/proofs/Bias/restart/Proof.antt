@@ -1,7 +1,7 @@
 -- `bias::Bias::restart` meets its contract, by its one check. Assumes nothing.
 use mathlib.Core.Path.{_∙_}
+use Rattle.answer.proofs.Tests.{one}
 use Rattle.answer.proofs.Answering.{fails, passes, all-pass, keeps, changes}
-use Rattle.bias.proofs.Steps.{one}
 use Rattle.bias.proofs.Bias.restart.Statement.{statement}
 use Rattle.bias.proofs.Bias.restart.Tie as tie
 

@@ -1,7 +1,7 @@
 -- `bias::Bias::set_offset` meets its contract, by its one check. Assumes nothing.
 use mathlib.Core.Path.{_∙_}
+use Rattle.answer.proofs.Tests.{two}
 use Rattle.answer.proofs.Answering.{fails, passes, all-pass, keeps, changes}
-use Rattle.bias.proofs.Steps.{two}
 use Rattle.bias.proofs.Bias.set_offset.Statement.{statement}
 use Rattle.bias.proofs.Bias.set_offset.Tie as tie
 

@@ -1,5 +1,6 @@
 -- `bias::Bias::set_settings` meets its contract: each return by the checks before it. Assumes nothing.
-use Rattle.bias.proofs.Steps.{two, settings-5, settings-6, settings-7, settings-set}
+use Rattle.answer.proofs.Tests.{two}
+use Rattle.bias.proofs.Steps.{settings-5, settings-6, settings-7, settings-set}
 use Rattle.bias.proofs.Bias.set_settings.Statement.{statement}
 use Rattle.bias.proofs.Bias.set_settings.Tie as tie
 

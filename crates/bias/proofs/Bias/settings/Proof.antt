@@ -1,9 +1,9 @@
 -- `bias::Bias::settings` meets its contract, by its one check. Assumes nothing.
 use mathlib.Core.Path.{refl, _∙_}
+use Rattle.answer.proofs.Tests.{one}
 use Rattle.answer.proofs.Answering.{fails, passes, all-pass, refuses, accepts}
 use Rattle.bias.specs.declared.reads.SettingsRead.the-variants.{Refused}
 use Rattle.bias.specs.Calls.{settingsNumber, settingsValues}
-use Rattle.bias.proofs.Steps.{one}
 use Rattle.bias.proofs.Bias.settings.Statement.{statement}
 use Rattle.bias.proofs.Bias.settings.Tie as tie
 

@@ -1,5 +1,6 @@
 -- `bias::Bias::update` meets its contract: each return by the checks before it. Assumes nothing.
-use Rattle.bias.proofs.Steps.{two, reading-5, reading-7, reading-read}
+use Rattle.answer.proofs.Tests.{two}
+use Rattle.bias.proofs.Steps.{reading-5, reading-7, reading-read}
 use Rattle.bias.proofs.Bias.update.Statement.{statement}
 use Rattle.bias.proofs.Bias.update.Tie as tie
 

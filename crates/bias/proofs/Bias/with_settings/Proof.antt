@@ -1,5 +1,6 @@
 -- `bias::Bias::with_settings` meets its contract: each return by the checks before it. Assumes nothing.
-use Rattle.bias.proofs.Steps.{one, start-5, start-6, start-7, start-fresh}
+use Rattle.answer.proofs.Tests.{one}
+use Rattle.bias.proofs.Steps.{start-5, start-6, start-7, start-fresh}
 use Rattle.bias.proofs.Bias.with_settings.Statement.{statement}
 use Rattle.bias.proofs.Bias.with_settings.Tie as tie
 

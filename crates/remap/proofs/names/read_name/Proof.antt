@@ -3,10 +3,11 @@ use Prim.Native.Nat.{_-_, _≤_}
 use native.Mathlib.Omega.{arith}
 use mathlib.Core.Path.{_≡_, refl, sym, _∙_}
 use borrow.Author.Needs.{needs}
+use Rattle.answer.proofs.Tests.{differs}
 use Rattle.remap.specs.First.{first}
 use Rattle.remap.specs.Names.{nameOf, same, namedBy}
 use Rattle.answer.proofs.Answering.{fails}
-use Rattle.remap.proofs.Giving.{differs, gives-refusal}
+use Rattle.remap.proofs.Giving.{gives-refusal}
 use Rattle.remap.proofs.Naming.{reads, unknown}
 use Rattle.remap.proofs.Searching.{first-next, first-here, first-end}
 use Rattle.remap.proofs.names.read_name.Statement.{statement}

@@ -1,8 +1,8 @@
 -- `remap::names::write_name` meets its contract. Assumes nothing.
 use mathlib.Core.Path.{_∙_}
 use borrow.Author.Tests.{lt-ltb, le-ltb}
-use Rattle.answer.proofs.Answering.{fails, passes, all-pass, keeps}
-use Rattle.remap.proofs.Giving.{differs, agrees, writes}
+use Rattle.answer.proofs.Tests.{agrees, differs}
+use Rattle.answer.proofs.Answering.{fails, passes, all-pass, keeps, writes}
 use borrow.Author.Needs.{needs}
 use Rattle.remap.proofs.names.write_name.Statement.{statement}
 use Rattle.remap.proofs.names.write_name.Tie as tie

@@ -3,13 +3,14 @@ use native.Mathlib.Omega.{arith}
 use mathlib.Core.Path.{_∙_}
 use lib.Dec.{ltb}
 use borrow.Author.Tests.{ltb-false}
+use Rattle.answer.proofs.Tests.{neither}
 use Rattle.math.specs.Mounting.{mountingOf}
 use Rattle.remap.specs.First.{first}
 use Rattle.remap.specs.Names.{nameOf, same}
 use Rattle.remap.specs.Composition.{composeOf}
 use Rattle.remap.proofs.Composing.{compose-at}
 use Rattle.answer.proofs.Answering.{fails, passes, all-pass}
-use Rattle.remap.proofs.Giving.{neither, gives-refusal, gives-number}
+use Rattle.remap.proofs.Giving.{gives-refusal, gives-number}
 use borrow.Author.Needs.{needs}
 use Rattle.remap.proofs.table.compose.Statement.{statement}
 use Rattle.remap.proofs.table.compose.Tie as tie
