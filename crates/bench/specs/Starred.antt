@@ -7,6 +7,7 @@ use lib.IntN.{pos, negsuc}
 use lib.Ieee.{fin, binary32, ofBits, toBits, ofInt}
 use Rattle.root.specs.Root.{sqrtOf}
 use Rattle.remap.specs.Composition.{composeOf, inverseOf}
+use Rattle.ahrs.specs.Bench.{StarredRows}
 
 pub record Starred : Type 0 where
   -- root of 2.0 has bits 3FB504F3
@@ -26,3 +27,6 @@ pub record Starred : Type 0 where
   pub one-then-eleven : composeOf 1 11 ≡ 20
   pub eleven-then-one : composeOf 11 1 ≡ 8
   pub three-undoes-one : inverseOf 1 ≡ 3
+  -- T = 3, four readings over the limit: zero, zero, zero, residual, triggers 1, 2, 3, 3;
+  -- T = 20, trigger 20 in recovery, good readings: 11, 2, 0, and recovery ends at the third
+  pub rejection-steps : StarredRows

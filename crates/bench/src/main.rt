@@ -1,11 +1,13 @@
 // The bench: runs the root vectors of standard input and the rows of the bench table that are not proved, and prints a
 // line for each.
+mod filter;
 mod roots;
 mod still;
 
 use bias::Bias;
 use bias::BiasSettings;
 use bias::Started;
+use filter::Beginning;
 use libc::STDOUT_FILENO;
 use math::Vector;
 use offset::RecordRead;
@@ -108,9 +110,93 @@ fn print_records() {
     print_record(b"record of mounting 24", &unknown);
 }
 
+fn told(name: &[u8], yes: bool) {
+    say(name);
+    if yes {
+        say(b": yes\n");
+    } else {
+        say(b": no\n");
+    }
+}
+
+fn print_step() {
+    let seen = filter::judged(0.5, 1.0, 1.0);
+    let residual = seen.residual;
+    let limit = residual.norm_squared();
+    let below = wire::float_of(std::num::wrapping_sub_u32(wire::bits_of(limit), 1));
+    told(
+        b"squared residual equal to the limit is ignored",
+        filter::judged(0.5, 1.0, limit).ignored,
+    );
+    told(
+        b"squared residual a step above the limit is ignored",
+        filter::judged(0.5, 1.0, below).ignored,
+    );
+    say(b"residual at a dot of 0:");
+    let level = filter::judged(1.0, 0.0, 1.0);
+    let v = level.residual;
+    vector(v);
+    say(b"\n");
+}
+
+fn print_range() {
+    let Beginning::At(fresh) = filter::begin(filter::settings(10.0, 0.5, 1.0)) else {
+        return;
+    };
+    told(
+        b"1960 of 2000 is over range",
+        filter::is_over_range(fresh, 1960.0),
+    );
+    told(
+        b"1960.0001 of 2000 is over range",
+        filter::is_over_range(fresh, 1960.0001),
+    );
+}
+
+fn print_startup() {
+    told(
+        b"gain 10, in startup after 1 update",
+        filter::stays_in_startup(filter::settings(10.0, 10.0, 1.0), 1),
+    );
+    told(
+        b"gain 11 and period 4, in startup after 1000 updates",
+        filter::stays_in_startup(filter::settings(0.25, 11.0, 1.0), 1000),
+    );
+    told(
+        b"a fall too small to change 10, in startup after 1000 updates",
+        filter::stays_in_startup(filter::settings(1000000000.0, 0.5, 1.0), 1000),
+    );
+}
+
+fn print_shown(name: &[u8], s: filter::Recovery) {
+    say(name);
+    say(b": ratio");
+    bits(s.ratio);
+    told(b", recovery flag up", s.flag);
+}
+
+fn print_lowered() {
+    let Beginning::At(fresh) = filter::begin(filter::settings(10.0, 0.5, 1.0)) else {
+        return;
+    };
+    let state = filter::lowered(fresh);
+    print_shown(b"T lowered from 10 to 3 at trigger 5", filter::shown(state));
+    print_shown(
+        b"and after the next reading",
+        filter::shown(filter::read_again(state)),
+    );
+    say(b"zero quaternion set, then update:");
+    refused(filter::after_zero_quaternion(fresh));
+    say(b"\n");
+}
+
 fn main() {
     print_roots();
     print_still(b"bias timeout 300", 3.0);
     print_still(b"bias timeout 0", 0.0);
     print_records();
+    print_step();
+    print_range();
+    print_startup();
+    print_lowered();
 }

@@ -21,7 +21,7 @@ fn is_right(v: &[u8]) -> bool
 }
 
 // A last vector that is cut short is not counted.
-pub fn run() -> Tally
+pub(crate) fn run() -> Tally
     ensures { λ r. ⌜ r .wrong ≤ r .read ⌝ }
 {
     let mut read: u64 = 0;

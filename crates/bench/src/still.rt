@@ -67,7 +67,7 @@ fn first_move(fresh: Bias) -> u32
 }
 
 // For a stationary period in seconds, at 100 readings a second.
-pub fn run(stationary_period: f32) -> Still
+pub(crate) fn run(stationary_period: f32) -> Still
     ensures { λ r. ⌜ (r .active ≤ 1000) × (r .moves ≤ 1000) ⌝ }
 {
     let started = Bias::with_settings(settings(stationary_period));

@@ -1,0 +1,19 @@
+pub mod Testing
+pub mod Judging
+pub mod Starting
+pub mod Updating
+pub mod Changing
+pub mod Telling
+pub mod Refusing
+pub mod Determined
+pub mod Covered
+pub mod Bench
+mod Timeouts
+mod Conjoined
+mod Finite
+mod Counting
+mod Accepting
+mod Sound
+pub mod Running
+pub mod Lowering
+mod Wrong

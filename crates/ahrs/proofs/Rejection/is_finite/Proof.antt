@@ -1,0 +1,11 @@
+-- `ahrs::Rejection::is_finite` meets its contract: by what the vector's `is_finite` ensures. Assumes nothing.
+use Rattle.ahrs.specs.Filter.{finiteRejection}
+use Rattle.ahrs.proofs.Rejection.is_finite.Statement.{statement}
+use Rattle.ahrs.proofs.Rejection.is_finite.Tie as tie
+
+returns : tie.Need-returns
+unfolding finiteRejection
+returns c = c .is-finite .ensures
+
+pub is-finite-spec : {M : Type 1} → statement M
+is-finite-spec = tie.close (tie.spec (λ c κs. tt) returns)

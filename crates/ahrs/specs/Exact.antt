@@ -1,0 +1,20 @@
+-- 01, "The refusal table": of every call here each number is given exactly when its row says.
+use lib.Ieee.{Float}
+use Rattle.answer.specs.Refusals.{Exactly}
+use Rattle.math.specs.declared.vector.Vector.{Vector}
+use Rattle.math.specs.declared.quaternion.Quaternion.{Quaternion}
+use Rattle.ahrs.specs.declared.Settings.{Settings}
+use Rattle.ahrs.specs.declared.Ahrs.{Ahrs}
+use Rattle.ahrs.specs.Calls.{startChecks, updateChecks, stateChecks, settingsChecks, periodChecks, quaternionChecks, vectorChecks, statesChecks}
+
+pub record ExactlyWhen : Type 0 where
+  pub start : (t : Settings) → Exactly (startChecks t)
+  pub update : (s : Ahrs) (g a m : Vector) → Exactly (updateChecks s g a m)
+  pub set-settings : (s : Ahrs) (t : Settings) → Exactly (settingsChecks s t)
+  pub set-sample-period : (s : Ahrs) (period : Float) → Exactly (periodChecks s period)
+  pub set-quaternion : (s : Ahrs) (q : Quaternion) → Exactly (quaternionChecks s q)
+  -- restart, skip_startup, settings, quaternion and flags
+  pub of-the-state : (s : Ahrs) → Exactly (stateChecks s)
+  -- gravity and the two accelerations
+  pub vector : (s : Ahrs) (v : Vector) → Exactly (vectorChecks s v)
+  pub internal-states : (s : Ahrs) → Exactly (statesChecks s)

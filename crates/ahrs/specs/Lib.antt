@@ -1,0 +1,10 @@
+pub mod Config
+pub mod Sensor
+pub mod Filter
+pub mod Read
+pub mod Calls
+pub mod Exact
+pub mod Determined
+pub mod Runs
+pub mod Reached
+pub mod Bench

@@ -1,0 +1,225 @@
+// Calls that only read the state: what they read, or a refusal's number.
+use super::Ahrs;
+use super::Settings;
+use super::update::half_gravity;
+use math::Quaternion;
+use math::Vector;
+ghost use mathlib.Core.Path.{_≡_};
+ghost use Rattle.ahrs.specs.Read.{gravityOf, linearOf, turnedOf, withoutGravity, earthOf, finiteStates};
+ghost use Rattle.ahrs.specs.Calls.{SettingsReads, QuaternionReads, VectorReads, FlagsReads, StatesReads};
+
+pub enum SettingsRead {
+    Read(Settings),
+    Refused(u8),
+}
+
+pub enum QuaternionRead {
+    Read(Quaternion),
+    Refused(u8),
+}
+
+pub enum VectorRead {
+    Read(Vector),
+    Refused(u8),
+}
+
+pub struct Flags {
+    pub startup: bool,
+    pub overrange_recovery: bool,
+    pub acceleration_recovery: bool,
+    pub magnetic_recovery: bool,
+}
+
+pub enum FlagsRead {
+    Read(Flags),
+    Refused(u8),
+}
+
+// The Rust's internal states without the error angles. A trigger is a fraction of the timeout.
+pub struct InternalStates {
+    pub accelerometer_ignored: bool,
+    pub acceleration_recovery_trigger: f32,
+    pub magnetometer_ignored: bool,
+    pub magnetic_recovery_trigger: f32,
+}
+
+pub enum StatesRead {
+    Read(InternalStates),
+    Refused(u8),
+}
+
+impl InternalStates {
+    pub(crate) fn is_finite(self) -> bool
+        ensures { λ r. ⌜ r ≡ finiteStates self ⌝ }
+    {
+        number::is_finite(self.acceleration_recovery_trigger)
+            & number::is_finite(self.magnetic_recovery_trigger)
+    }
+}
+
+// A vector from the sensor's frame to the Earth's: each axis by half a row of the rotation matrix.
+fn turned(q: Quaternion, a: Vector) -> Vector
+    ensures { λ r. ⌜ r ≡ turnedOf q a ⌝ }
+{
+    let x = Vector {
+        x: q.w * q.w - 0.5 + q.x * q.x,
+        y: q.x * q.y - q.w * q.z,
+        z: q.x * q.z + q.w * q.y,
+    };
+    let y = Vector {
+        x: q.x * q.y + q.w * q.z,
+        y: q.w * q.w - 0.5 + q.y * q.y,
+        z: q.y * q.z - q.w * q.x,
+    };
+    let z = Vector {
+        x: q.x * q.z - q.w * q.y,
+        y: q.y * q.z + q.w * q.x,
+        z: q.w * q.w - 0.5 + q.z * q.z,
+    };
+    Vector {
+        x: 2.0 * x.dot(a),
+        y: 2.0 * y.dot(a),
+        z: 2.0 * z.dot(a),
+    }
+}
+
+// An acceleration in the Earth's frame without gravity's 1 g, which points down in NED.
+fn without_gravity(convention: u8, v: Vector) -> Vector
+    ensures { λ r. ⌜ r ≡ withoutGravity convention v ⌝ }
+{
+    if convention == 2 {
+        return Vector {
+            x: v.x,
+            y: v.y,
+            z: v.z + 1.0,
+        };
+    }
+    Vector {
+        x: v.x,
+        y: v.y,
+        z: v.z - 1.0,
+    }
+}
+
+impl Ahrs {
+    pub fn settings(self) -> SettingsRead
+        ensures { λ r. ⌜ SettingsReads self r ⌝ }
+    {
+        let settings = self.settings;
+        if !settings.is_known() {
+            return SettingsRead::Refused(4);
+        }
+        if !self.is_finite() {
+            return SettingsRead::Refused(5);
+        }
+        SettingsRead::Read(settings)
+    }
+
+    pub fn quaternion(self) -> QuaternionRead
+        ensures { λ r. ⌜ QuaternionReads self r ⌝ }
+    {
+        let settings = self.settings;
+        if !settings.is_known() {
+            return QuaternionRead::Refused(4);
+        }
+        if !self.is_finite() {
+            return QuaternionRead::Refused(5);
+        }
+        let quaternion = self.quaternion;
+        QuaternionRead::Read(quaternion)
+    }
+
+    // A vector worked out from the state, where the state is sound and the vector finite.
+    fn told(self, v: Vector) -> VectorRead
+        ensures { λ r. ⌜ VectorReads self v r ⌝ }
+    {
+        let settings = self.settings;
+        if !settings.is_known() {
+            return VectorRead::Refused(4);
+        }
+        if !self.is_finite() {
+            return VectorRead::Refused(5);
+        }
+        if !v.is_finite() {
+            return VectorRead::Refused(7);
+        }
+        VectorRead::Read(v)
+    }
+
+    // Gravity's direction in the sensor's frame.
+    pub fn gravity(self) -> VectorRead
+        ensures { λ r. ⌜ VectorReads self (gravityOf self) r ⌝ }
+    {
+        let settings = self.settings;
+        let q = self.quaternion;
+        self.told(half_gravity(settings.convention, q).mul(2.0))
+    }
+
+    // The acceleration without gravity, in the sensor's frame.
+    pub fn linear_acceleration(self) -> VectorRead
+        ensures { λ r. ⌜ VectorReads self (linearOf self) r ⌝ }
+    {
+        let settings = self.settings;
+        let q = self.quaternion;
+        let accelerometer = self.accelerometer;
+        self.told(accelerometer.sub(half_gravity(settings.convention, q).mul(2.0)))
+    }
+
+    // The acceleration without gravity, in the Earth's frame.
+    pub fn earth_acceleration(self) -> VectorRead
+        ensures { λ r. ⌜ VectorReads self (earthOf self) r ⌝ }
+    {
+        let settings = self.settings;
+        let q = self.quaternion;
+        let accelerometer = self.accelerometer;
+        self.told(without_gravity(settings.convention, turned(q, accelerometer)))
+    }
+
+    pub fn flags(self) -> FlagsRead
+        ensures { λ r. ⌜ FlagsReads self r ⌝ }
+    {
+        let settings = self.settings;
+        if !settings.is_known() {
+            return FlagsRead::Refused(4);
+        }
+        if !self.is_finite() {
+            return FlagsRead::Refused(5);
+        }
+        let acceleration = self.acceleration;
+        let magnetic = self.magnetic;
+        let acceleration_recovery = acceleration.counts().recovery();
+        let magnetic_recovery = magnetic.counts().recovery();
+        FlagsRead::Read(Flags {
+            startup: self.startup,
+            overrange_recovery: self.overrange_recovery,
+            acceleration_recovery,
+            magnetic_recovery,
+        })
+    }
+
+    pub fn internal_states(self) -> StatesRead
+        ensures { λ r. ⌜ StatesReads self r ⌝ }
+    {
+        let settings = self.settings;
+        if !settings.is_known() {
+            return StatesRead::Refused(4);
+        }
+        if !self.is_finite() {
+            return StatesRead::Refused(5);
+        }
+        let config = self.config;
+        let acceleration = self.acceleration;
+        let magnetic = self.magnetic;
+        let timeout = config.rejection_timeout;
+        let states = InternalStates {
+            accelerometer_ignored: acceleration.ignored,
+            acceleration_recovery_trigger: acceleration.recovery_trigger(timeout),
+            magnetometer_ignored: magnetic.ignored,
+            magnetic_recovery_trigger: magnetic.recovery_trigger(timeout),
+        };
+        if !states.is_finite() {
+            return StatesRead::Refused(7);
+        }
+        StatesRead::Read(states)
+    }
+}

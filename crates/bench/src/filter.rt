@@ -1,0 +1,151 @@
+// The bench table's rows of the filter that are run, each a short story told by calls of the filter.
+use ahrs::Ahrs;
+use ahrs::Settings;
+use ahrs::Started;
+use ahrs::read::FlagsRead;
+use ahrs::read::StatesRead;
+use math::Quaternion;
+use math::Vector;
+
+// A filter, or nothing where its settings are refused.
+pub(crate) enum Beginning {
+    At(Ahrs),
+    Never,
+}
+
+// What the acceleration's recovery shows: its flag, and the trigger as a fraction of the timeout.
+pub(crate) struct Recovery {
+    pub flag: bool,
+    pub ratio: f32,
+}
+
+// Limits of 10 degrees, and a timeout of a second.
+pub(crate) fn settings(sample_rate: f32, gain: f32, rejection_timeout: f32) -> Settings {
+    Settings {
+        sample_rate,
+        convention: 0,
+        gain,
+        gyroscope_range: 2000.0,
+        acceleration_rejection_squared: 0.0075384225,
+        magnetic_rejection_squared: 0.0075384225,
+        rejection_timeout,
+    }
+}
+
+pub(crate) fn begin(settings: Settings) -> Beginning {
+    match Ahrs::with_settings(settings) {
+        Started::Fresh(fresh) => Beginning::At(fresh),
+        Started::Refused(_) => Beginning::Never,
+    }
+}
+
+// An update of a pole that stands still, its accelerometer reading (x, 0, z).
+fn still(state: Ahrs, x: f32, z: f32) -> Ahrs {
+    let reading = state.update(Vector::ZERO, Vector::new(x, 0.0, z), Vector::ZERO);
+    reading.state
+}
+
+// The state after some such updates.
+fn after(state: Ahrs, x: f32, z: f32, updates: u32) -> Ahrs {
+    let mut now = state;
+    let mut n = 0;
+    while n < updates {
+        now = still(now, x, z);
+        n += 1;
+    }
+    now
+}
+
+fn in_startup(state: Ahrs) -> bool {
+    match state.flags() {
+        FlagsRead::Read(flags) => flags.startup,
+        FlagsRead::Refused(_) => false,
+    }
+}
+
+// Whether startup goes on after some updates.
+pub(crate) fn stays_in_startup(settings: Settings, updates: u32) -> bool {
+    match begin(settings) {
+        Beginning::At(fresh) => in_startup(after(fresh, 0.0, 1.0, updates)),
+        Beginning::Never => false,
+    }
+}
+
+// The half residual of the first update out of startup, and whether the accelerometer was ignored.
+pub(crate) struct Verdict {
+    pub residual: Vector,
+    pub ignored: bool,
+}
+
+// Judges an accelerometer reading of (x, 0, z) by a squared limit.
+pub(crate) fn judged(x: f32, z: f32, limit: f32) -> Verdict {
+    let mut limits = settings(10.0, 0.5, 1.0);
+    limits.acceleration_rejection_squared = limit;
+    match begin(limits) {
+        Beginning::At(fresh) => {
+            let skipped = fresh.skip_startup();
+            let state = still(skipped.state, x, z);
+            let acceleration = state.acceleration;
+            let residual = acceleration.half_residual;
+            Verdict {
+                residual,
+                ignored: acceleration.ignored,
+            }
+        }
+        Beginning::Never => {
+            let residual = Vector::ZERO;
+            Verdict {
+                residual,
+                ignored: false,
+            }
+        }
+    }
+}
+
+// Whether a rate of x degrees a second is over the range of 2,000.
+pub(crate) fn is_over_range(fresh: Ahrs, x: f32) -> bool {
+    let reading = fresh.update(
+        Vector::new(x, 0.0, 0.0),
+        Vector::new(0.0, 0.0, 1.0),
+        Vector::ZERO,
+    );
+    let state = reading.state;
+    match state.flags() {
+        FlagsRead::Read(flags) => flags.overrange_recovery,
+        FlagsRead::Refused(_) => false,
+    }
+}
+
+pub(crate) fn shown(state: Ahrs) -> Recovery {
+    let flag = match state.flags() {
+        FlagsRead::Read(flags) => flags.acceleration_recovery,
+        FlagsRead::Refused(_) => false,
+    };
+    let ratio = match state.internal_states() {
+        StatesRead::Read(states) => states.acceleration_recovery_trigger,
+        StatesRead::Refused(_) => 0.0,
+    };
+    Recovery { flag, ratio }
+}
+
+// T = 10 and five readings over the limit, so that the trigger is 5; then T = 3.
+pub(crate) fn lowered(fresh: Ahrs) -> Ahrs {
+    let skipped = fresh.skip_startup();
+    let state = after(skipped.state, 1.0, 0.0, 5);
+    let change = state.set_settings(settings(10.0, 0.5, 0.3));
+    change.state
+}
+
+// The lowered T after one more reading that is nonzero.
+pub(crate) fn read_again(state: Ahrs) -> Ahrs {
+    still(state, 0.0, 1.0)
+}
+
+// The number of an update after a zero quaternion was set.
+pub(crate) fn after_zero_quaternion(fresh: Ahrs) -> u8 {
+    let change = fresh.set_quaternion(Quaternion::new(0.0, 0.0, 0.0, 0.0));
+    let state = change.state;
+    let reading = state.update(Vector::ZERO, Vector::new(0.0, 0.0, 1.0), Vector::ZERO);
+    let answer = reading.answer;
+    answer.number()
+}

@@ -1,0 +1,4 @@
+pub mod Settling
+pub mod Order
+pub mod Inside
+mod Wrong
