@@ -11,12 +11,12 @@ use Rattle.answer.proofs.Answering.{passed}
 use Rattle.math.specs.declared.vector.Vector.{Vector}
 use Rattle.math.specs.Vectors.{finiteVector}
 use Rattle.rejection.specs.Inside.{NotBelow}
-use Rattle.ahrs.specs.declared.Settings.{Settings}
+use Rattle.step.specs.declared.Settings.{Settings}
 use Rattle.ahrs.specs.declared.Ahrs.{Ahrs}
-use Rattle.ahrs.specs.Config.{knownConvention, finiteSettings, soundSettings, derivedOf, finiteConfig}
+use Rattle.step.specs.Config.{knownConvention, finiteSettings, soundSettings, derivedOf, finiteConfig}
 use Rattle.ahrs.specs.Filter.{finiteState, steppedOf}
 use Rattle.ahrs.specs.Calls.{startChecks, updateChecks, settingsChecks}
-use Rattle.ahrs.proofs.Testing.{untrue}
+use Rattle.answer.proofs.Tests.{untrue}
 use Rattle.ahrs.proofs.Conjoined.{left, right}
 use Rattle.ahrs.proofs.Timeouts.{product-cut}
 

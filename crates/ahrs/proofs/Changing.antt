@@ -4,13 +4,13 @@ use mathlib.Core.Bool.{Bool, true, false, not, _&&_}
 use mathlib.Core.List.{List, _∷_}
 use Rattle.answer.specs.Refusals.{Check, check, refusalOf, Changed}
 use Rattle.answer.proofs.Answering.{fails, passes, all-pass, keeps, changes}
-use Rattle.ahrs.specs.declared.Settings.{Settings}
-use Rattle.ahrs.specs.declared.config.Config.{Config}
+use Rattle.step.specs.declared.Settings.{Settings}
+use Rattle.step.specs.declared.config.Config.{Config}
 use Rattle.ahrs.specs.declared.Ahrs.{Ahrs}
-use Rattle.ahrs.specs.Config.{knownConvention, finiteSettings, soundSettings, derivedOf, finiteConfig}
+use Rattle.step.specs.Config.{knownConvention, finiteSettings, soundSettings, derivedOf, finiteConfig}
 use Rattle.ahrs.specs.Filter.{finiteState, withSettings}
 use Rattle.ahrs.specs.Calls.{settingsChecks, SetsSettings}
-use Rattle.ahrs.proofs.Testing.{one}
+use Rattle.answer.proofs.Tests.{one}
 
 -- p and q are the tests of 4 and 5
 module _ (cs : List Check) (new old : Ahrs) where

@@ -4,12 +4,13 @@ use lib.IntN.{ℤ}
 use lib.Ieee.{Float}
 use Rattle.math.specs.declared.vector.Vector.{Vector}
 use Rattle.math.specs.Vectors.{isZeroOf, crossOf, normalizeOf}
-use Rattle.ahrs.specs.declared.config.Config.{Config}
-use Rattle.ahrs.specs.declared.Rejection.{Rejection}
-use Rattle.ahrs.specs.declared.sensor.Feedback.{Feedback}
+use Rattle.step.specs.declared.config.Config.{Config}
+use Rattle.step.specs.declared.Rejection.{Rejection}
+use Rattle.step.specs.declared.sensor.Feedback.{Feedback}
 use Rattle.ahrs.specs.declared.Ahrs.{Ahrs}
-use Rattle.ahrs.specs.Sensor.{residualOf, skippedOf, rejectedOf, inclinationOf, headingOf}
-use Rattle.ahrs.specs.Filter.{firesOf, softRestartedOf, overrangeOf, judgedOf, steppedOf}
+use Rattle.step.specs.Sensor.{residualOf, skippedOf, rejectedOf, inclinationOf, headingOf}
+use Rattle.step.specs.Config.{firesOf}
+use Rattle.ahrs.specs.Filter.{softRestartedOf, overrangeOf, judgedOf, steppedOf}
 
 module _
     (P : ℤ → Rejection → Type 0)

@@ -7,13 +7,13 @@ use lib.Ieee.Scale.{finite}
 use Rattle.math.specs.declared.quaternion.Quaternion.{Quaternion}
 use Rattle.math.specs.Vectors.{finiteVector, zeroVector}
 use Rattle.math.specs.Quaternions.{finiteQuaternion}
-use Rattle.ahrs.specs.declared.Settings.{Settings}
-use Rattle.ahrs.specs.declared.config.Config.{Config}
-use Rattle.ahrs.specs.declared.Rejection.{Rejection}
+use Rattle.step.specs.declared.Settings.{Settings}
+use Rattle.step.specs.declared.config.Config.{Config}
+use Rattle.step.specs.declared.Rejection.{Rejection}
 use Rattle.ahrs.specs.declared.Ahrs.{Ahrs}
-use Rattle.ahrs.specs.Config.{finiteSettings, finiteConfig}
-use Rattle.ahrs.specs.Sensor.{resetOf}
-use Rattle.ahrs.specs.Filter.{finiteRejection, finiteState, freshOf, skippedStartup, withThreshold, withSettings, withSamplePeriod, withQuaternion}
+use Rattle.step.specs.Config.{finiteSettings, finiteConfig}
+use Rattle.step.specs.Sensor.{resetOf, finiteRejection}
+use Rattle.ahrs.specs.Filter.{finiteState, freshOf, skippedStartup, withThreshold, withSettings, withSamplePeriod, withQuaternion}
 use Rattle.ahrs.proofs.Conjoined.{left, right, with-first}
 
 pub record Parts (s : Ahrs) : Type 0 where

@@ -1,5 +1,3 @@
-pub mod Testing
-pub mod Judging
 pub mod Starting
 pub mod Updating
 pub mod Changing
@@ -7,7 +5,6 @@ pub mod Telling
 pub mod Refusing
 pub mod Determined
 pub mod Covered
-pub mod Bench
 mod Timeouts
 mod Conjoined
 mod Finite

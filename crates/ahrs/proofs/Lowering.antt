@@ -7,12 +7,12 @@ use Rattle.math.specs.declared.vector.Vector.{Vector}
 use Rattle.rejection.specs.Inside.{NotBelow}
 use Rattle.rejection.proofs.Order.{not-below-through}
 use Rattle.rejection.proofs.Inside.{steps-inside}
-use Rattle.ahrs.specs.declared.Settings.{Settings}
-use Rattle.ahrs.specs.declared.config.Config.{Config}
-use Rattle.ahrs.specs.declared.Rejection.{Rejection}
+use Rattle.step.specs.declared.Settings.{Settings}
+use Rattle.step.specs.declared.config.Config.{Config}
+use Rattle.step.specs.declared.Rejection.{Rejection}
 use Rattle.ahrs.specs.declared.Ahrs.{Ahrs}
-use Rattle.ahrs.specs.Config.{derivedOf}
-use Rattle.ahrs.specs.Sensor.{countsOf, resetOf, skippedOf, rejectedOf}
+use Rattle.step.specs.Config.{derivedOf}
+use Rattle.step.specs.Sensor.{countsOf, resetOf, skippedOf, rejectedOf}
 use Rattle.ahrs.specs.Filter.{freshOf, restartedOf, skippedStartup, withThreshold, withSettings, withSamplePeriod, withQuaternion, overrangeOf, steppedOf}
 use Rattle.ahrs.specs.Calls.{updateChecks, stateChecks, settingsChecks, periodChecks, quaternionChecks}
 use Rattle.ahrs.specs.Runs.{Call, update, restart, skip-startup, set-settings, set-sample-period, set-quaternion, stepOf}

@@ -7,9 +7,9 @@ use lib.Ieee.Scale.{finite}
 use Rattle.answer.specs.Refusals.{refusalOf, accepted}
 use Rattle.answer.proofs.Answering.{passed}
 use Rattle.math.specs.Quaternions.{finiteQuaternion}
-use Rattle.ahrs.specs.declared.Settings.{Settings}
+use Rattle.step.specs.declared.Settings.{Settings}
 use Rattle.ahrs.specs.declared.Ahrs.{Ahrs}
-use Rattle.ahrs.specs.Config.{knownConvention, derivedOf}
+use Rattle.step.specs.Config.{knownConvention, derivedOf}
 use Rattle.ahrs.specs.Filter.{finiteState, freshOf, restartedOf, skippedStartup, withSettings, withSamplePeriod, withQuaternion, steppedOf}
 use Rattle.ahrs.specs.Calls.{startChecks, updateChecks, stateChecks, settingsChecks, periodChecks, quaternionChecks}
 use Rattle.ahrs.specs.Runs.{Call, update, restart, skip-startup, set-settings, set-sample-period, set-quaternion, stepOf, runOf}

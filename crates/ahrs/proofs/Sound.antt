@@ -11,12 +11,12 @@ use Rattle.math.specs.Quaternions.{finiteQuaternion}
 use Rattle.rejection.specs.Inside.{NotBelow}
 use Rattle.rejection.proofs.Order.{not-below-itself}
 use Rattle.rejection.proofs.Inside.{steps-inside}
-use Rattle.ahrs.specs.declared.Settings.{Settings}
-use Rattle.ahrs.specs.declared.config.Config.{Config}
-use Rattle.ahrs.specs.declared.Rejection.{Rejection}
+use Rattle.step.specs.declared.Settings.{Settings}
+use Rattle.step.specs.declared.config.Config.{Config}
+use Rattle.step.specs.declared.Rejection.{Rejection}
 use Rattle.ahrs.specs.declared.Ahrs.{Ahrs}
-use Rattle.ahrs.specs.Config.{knownConvention, finiteSettings, finiteConfig}
-use Rattle.ahrs.specs.Sensor.{countsOf, resetOf, skippedOf, rejectedOf}
+use Rattle.step.specs.Config.{knownConvention, finiteSettings, finiteConfig}
+use Rattle.step.specs.Sensor.{countsOf, resetOf, skippedOf, rejectedOf}
 use Rattle.ahrs.specs.Filter.{finiteState, freshOf, restartedOf, skippedStartup, withThreshold, withSettings, withSamplePeriod, withQuaternion, overrangeOf, steppedOf}
 use Rattle.ahrs.specs.Reached.{Counted, Sound}
 use Rattle.ahrs.proofs.Finite.{parts, fresh-finite, startup-finite, settings-finite, period-finite, quaternion-finite}

@@ -4,14 +4,14 @@ use mathlib.Core.Bool.{true, false, not}
 use Prim.Native.Nat.{ℕ, suc}
 use Rattle.answer.specs.Refusals.{refusalOf}
 use Rattle.answer.proofs.Answering.{fails, passes, all-pass, refuses, accepts}
-use Rattle.ahrs.specs.declared.Settings.{Settings}
-use Rattle.ahrs.specs.declared.config.Config.{Config}
+use Rattle.step.specs.declared.Settings.{Settings}
+use Rattle.step.specs.declared.config.Config.{Config}
 use Rattle.ahrs.specs.declared.Ahrs.{Ahrs}
 use Rattle.ahrs.specs.declared.change.Started.the-variants.{Fresh, Refused}
-use Rattle.ahrs.specs.Config.{knownConvention, finiteSettings, soundSettings, derivedOf, finiteConfig}
+use Rattle.step.specs.Config.{knownConvention, finiteSettings, soundSettings, derivedOf, finiteConfig}
 use Rattle.ahrs.specs.Filter.{freshOf}
 use Rattle.ahrs.specs.Calls.{startChecks, startNumber, startValues, Starts}
-use Rattle.ahrs.proofs.Testing.{one}
+use Rattle.answer.proofs.Tests.{one}
 
 module _ (s : Settings) where
   refused : (k : ℕ) → refusalOf (startChecks s) ≡ suc k → Starts s (Refused (suc k))

@@ -9,10 +9,10 @@ use Rattle.answer.proofs.Answering.{fails, passes, all-pass, refuses, accepts}
 use Rattle.math.specs.declared.vector.Vector.{Vector}
 use Rattle.math.specs.Vectors.{finiteVector}
 use Rattle.ahrs.specs.declared.Ahrs.{Ahrs}
-use Rattle.ahrs.specs.Config.{knownConvention}
+use Rattle.step.specs.Config.{knownConvention}
 use Rattle.ahrs.specs.Filter.{finiteState, steppedOf}
 use Rattle.ahrs.specs.Calls.{updateChecks, orientedOf, Updates}
-use Rattle.ahrs.proofs.Testing.{one}
+use Rattle.answer.proofs.Tests.{one}
 
 module _ (s : Ahrs) (g a m : Vector) where
   stays : (k : ℕ) → refusalOf (updateChecks s g a m) ≡ suc k → Updates s g a m (record { state = s; answer = Refused (suc k) })

@@ -11,9 +11,9 @@ use Rattle.answer.specs.Refusals.{refusalOf}
 use Rattle.math.specs.declared.vector.Vector.{Vector}
 use Rattle.math.specs.Vectors.{vector, finiteVector, dotOf}
 use Rattle.math.specs.Quaternions.{quaternion, finiteQuaternion}
-use Rattle.ahrs.specs.declared.Settings.{Settings}
-use Rattle.ahrs.specs.declared.config.Config.{Config}
-use Rattle.ahrs.specs.declared.Rejection.{Rejection}
+use Rattle.step.specs.declared.Settings.{Settings}
+use Rattle.step.specs.declared.config.Config.{Config}
+use Rattle.step.specs.declared.Rejection.{Rejection}
 use Rattle.ahrs.specs.declared.Ahrs.{Ahrs}
 use Rattle.ahrs.specs.declared.change.Started as started
 use Rattle.ahrs.specs.declared.read.SettingsRead as settings
@@ -21,9 +21,10 @@ use Rattle.ahrs.specs.declared.read.QuaternionRead as turned
 use Rattle.ahrs.specs.declared.read.VectorRead as told
 use Rattle.ahrs.specs.declared.read.FlagsRead as flags
 use Rattle.ahrs.specs.declared.read.StatesRead as states
-use Rattle.ahrs.specs.Config.{finiteSettings, finiteConfig}
-use Rattle.ahrs.specs.Sensor.{resetOf, ratioOf}
-use Rattle.ahrs.specs.Filter.{finiteRejection, finiteState, freshOf, restartedOf, skippedStartup, withSamplePeriod, withQuaternion, halfGravityOf}
+use Rattle.step.specs.Config.{finiteSettings, finiteConfig}
+use Rattle.step.specs.Sensor.{resetOf, ratioOf, finiteRejection}
+use Rattle.step.specs.Direction.{halfGravityOf}
+use Rattle.ahrs.specs.Filter.{finiteState, freshOf, restartedOf, skippedStartup, withSamplePeriod, withQuaternion}
 use Rattle.ahrs.specs.Read.{gravityOf, linearOf, turnedOf, withoutGravity, earthOf, flagsOf, statesOf, finiteStates}
 use Rattle.ahrs.specs.Calls.{Starts, Updates, Restarts, SkipsStartup, SetsSettings, SetsSamplePeriod, SetsQuaternion, SettingsReads, QuaternionReads, VectorReads, FlagsReads, StatesReads}
 

@@ -14,7 +14,7 @@ use Rattle.math.specs.declared.vector.Vector.{Vector}
 use Rattle.math.specs.declared.quaternion.Quaternion.{Quaternion}
 use Rattle.math.specs.Vectors.{finiteVector}
 use Rattle.math.specs.Quaternions.{finiteQuaternion}
-use Rattle.ahrs.specs.declared.Settings.{Settings}
+use Rattle.step.specs.declared.Settings.{Settings}
 use Rattle.ahrs.specs.declared.Ahrs.{Ahrs}
 use Rattle.ahrs.specs.declared.Reading.{Reading}
 use Rattle.ahrs.specs.declared.change.Change.{Change}
@@ -26,7 +26,7 @@ use Rattle.ahrs.specs.declared.read.Flags.{Flags}
 use Rattle.ahrs.specs.declared.read.FlagsRead as flags
 use Rattle.ahrs.specs.declared.read.InternalStates.{InternalStates}
 use Rattle.ahrs.specs.declared.read.StatesRead as states
-use Rattle.ahrs.specs.Config.{knownConvention, finiteSettings, soundSettings, derivedOf, finiteConfig}
+use Rattle.step.specs.Config.{knownConvention, finiteSettings, soundSettings, derivedOf, finiteConfig}
 use Rattle.ahrs.specs.Filter.{finiteState, freshOf, restartedOf, skippedStartup, withSettings, withSamplePeriod, withQuaternion, steppedOf}
 use Rattle.ahrs.specs.Read.{flagsOf, statesOf, finiteStates}
 

@@ -3,7 +3,7 @@ use lib.Ieee.{Float}
 use Rattle.answer.specs.Refusals.{Exactly}
 use Rattle.math.specs.declared.vector.Vector.{Vector}
 use Rattle.math.specs.declared.quaternion.Quaternion.{Quaternion}
-use Rattle.ahrs.specs.declared.Settings.{Settings}
+use Rattle.step.specs.declared.Settings.{Settings}
 use Rattle.ahrs.specs.declared.Ahrs.{Ahrs}
 use Rattle.ahrs.specs.Calls.{startChecks, updateChecks, stateChecks, settingsChecks, periodChecks, quaternionChecks, vectorChecks, statesChecks}
 

@@ -1,36 +1,25 @@
 -- 01, "Filter": the state, and how an update moves it, in the Rust's operation order.
 use mathlib.Core.Bool.{Bool, true, false, cond, _&&_}
-use Prim.Native.Nat.{ℕ}
-use lib.Dec.{eqb}
 use lib.IntN.{ℤ}
-use lib.Ieee.{Float, binary32, ofBits, lt, neg}
+use lib.Ieee.{Float}
 use lib.Ieee.Scale.{finite}
-use Rattle.number.specs.Float32.{_⊕_, _⊖_, _⊗_, zero, one}
+use Rattle.number.specs.Float32.{zero, one}
 use Rattle.math.specs.declared.vector.Vector.{Vector}
 use Rattle.math.specs.declared.quaternion.Quaternion.{Quaternion}
-use Rattle.math.specs.Vectors.{vector, zeroVector, finiteVector, exceedsOf, addOf, mulOf}
+use Rattle.math.specs.Vectors.{zeroVector, finiteVector, addOf, mulOf}
 use Rattle.math.specs.Quaternions as quaternion
-use Rattle.math.specs.Quaternions.{finiteQuaternion, vectorProductOf}
-use Rattle.ahrs.specs.declared.Settings.{Settings}
-use Rattle.ahrs.specs.declared.config.Config.{Config}
-use Rattle.ahrs.specs.declared.Rejection.{Rejection}
+use Rattle.math.specs.Quaternions.{finiteQuaternion}
+use Rattle.step.specs.declared.Settings.{Settings}
+use Rattle.step.specs.declared.config.Config.{Config}
+use Rattle.step.specs.declared.Rejection.{Rejection}
+use Rattle.step.specs.Config.{initialGain, finiteSettings, finiteConfig, firesOf}
+use Rattle.step.specs.Sensor.{resetOf, inclinationOf, headingOf, finiteRejection}
+use Rattle.step.specs.Direction.{halfGravityOf, halfWestOf}
+use Rattle.step.specs.Rate.{rampedOf, rateOf, integratedOf}
 use Rattle.ahrs.specs.declared.Ahrs.{Ahrs}
-use Rattle.ahrs.specs.declared.update.Ramped.{Ramped}
 use Rattle.ahrs.specs.declared.update.Judged.{Judged}
-use Rattle.ahrs.specs.Config.{initialGain, finiteSettings, finiteConfig}
-use Rattle.ahrs.specs.Sensor.{resetOf, inclinationOf, headingOf}
-
-abbrev pub half : Float
-half = ofBits binary32 0x3f00_0000
-
--- pi / 180 as the Rust has it
-abbrev pub degToRad : Float
-degToRad = ofBits binary32 0x3c8e_fa35
 
 -- ---- a state's floats
-
-unfoldable pub finiteRejection : Rejection → Bool
-finiteRejection r = finiteVector (r .«half_residual»)
 
 unfoldable pub finiteState : Ahrs → Bool
 finiteState s =
@@ -136,10 +125,6 @@ skippedStartup s =
 
 -- ---- overrange
 
--- on when the range is above 0; fires when some axis is larger in size than 0.98 × range
-unfoldable pub firesOf : Config → Vector → Bool
-firesOf c g = c .«overrange_enabled» && exceedsOf g (c .«overrange_threshold»)
-
 -- it restarts all but quaternion and accelerometer, and raises its flag
 abbrev pub softRestartedOf : Ahrs → Ahrs
 softRestartedOf s =
@@ -158,36 +143,6 @@ softRestartedOf s =
 unfoldable pub overrangeOf : Ahrs → Vector → Ahrs
 overrangeOf s g = cond (firesOf (s .config) g) (softRestartedOf s) s
 
--- ---- the startup gain
-
-abbrev pub ramped : Bool → Float → Bool → Float → Ramped
-ramped startup startupGain recovery gain =
-    record { startup = startup; «startup_gain» = startupGain; «overrange_recovery» = recovery; gain = gain }
-
--- it falls before use; startup ends when it is no longer above the gain
-unfoldable pub rampedOf : Config → Bool → Float → Bool → Ramped
-rampedOf c startup startupGain recovery =
-    let fallen = startupGain ⊖ c .«startup_gain_rate» in
-    cond startup
-    (cond (lt (c .gain) fallen) (ramped true fallen recovery fallen) (ramped false fallen false (c .gain)))
-    (ramped false startupGain recovery (c .gain))
-
--- ---- directions, half as long, by the convention: 0 NWU, 1 ENU, 2 NED
-
-unfoldable pub halfGravityOf : ℕ → Quaternion → Vector
-halfGravityOf convention q =
-    cond (eqb convention 2)
-    (vector (q .w ⊗ q .y ⊖ q .x ⊗ q .z) (neg (q .y ⊗ q .z ⊕ q .w ⊗ q .x)) (half ⊖ q .w ⊗ q .w ⊖ q .z ⊗ q .z))
-    (vector (q .x ⊗ q .z ⊖ q .w ⊗ q .y) (q .y ⊗ q .z ⊕ q .w ⊗ q .x) (q .w ⊗ q .w ⊖ half ⊕ q .z ⊗ q .z))
-
-unfoldable pub halfWestOf : ℕ → Quaternion → Vector
-halfWestOf convention q =
-    cond (eqb convention 0)
-    (vector (q .x ⊗ q .y ⊕ q .w ⊗ q .z) (q .w ⊗ q .w ⊖ half ⊕ q .y ⊗ q .y) (q .y ⊗ q .z ⊖ q .w ⊗ q .x))
-    (cond (eqb convention 1)
-    (vector (half ⊖ q .w ⊗ q .w ⊖ q .x ⊗ q .x) (q .w ⊗ q .z ⊖ q .x ⊗ q .y) (neg (q .x ⊗ q .z ⊕ q .w ⊗ q .y)))
-    (vector (neg (q .x ⊗ q .y ⊕ q .w ⊗ q .z)) (half ⊖ q .w ⊗ q .w ⊖ q .y ⊗ q .y) (q .w ⊗ q .x ⊖ q .y ⊗ q .z)))
-
 -- ---- one update, before any refusal
 
 -- both sensors' steps; neither reads what the other gives
@@ -202,13 +157,6 @@ judgedOf s accelerometer magnetometer startup =
       magnetic = heading .rejection;
       «half_feedback» = addOf (inclination .«half_feedback») (heading .«half_feedback»);
     }
-
--- the gyroscope in half radians, and the feedback times the gain
-unfoldable pub rateOf : Vector → Vector → Float → Vector
-rateOf gyroscope feedback gain = addOf (mulOf gyroscope (degToRad ⊗ half)) (mulOf feedback gain)
-
-unfoldable pub integratedOf : Quaternion → Vector → Quaternion
-integratedOf q displacement = quaternion.normalizeOf (quaternion.addOf q (vectorProductOf q displacement))
 
 unfoldable pub steppedOf : Ahrs → Vector → Vector → Vector → Ahrs
 steppedOf s gyroscope accelerometer magnetometer =

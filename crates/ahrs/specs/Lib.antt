@@ -1,5 +1,3 @@
-pub mod Config
-pub mod Sensor
 pub mod Filter
 pub mod Read
 pub mod Calls
@@ -7,4 +5,3 @@ pub mod Exact
 pub mod Determined
 pub mod Runs
 pub mod Reached
-pub mod Bench

@@ -5,10 +5,10 @@ use mathlib.Core.List.{List, [], _∷_}
 use lib.IntN.{ℤ, pos}
 use Rattle.answer.specs.Refusals.{refusalOf}
 use Rattle.rejection.specs.Inside.{NotBelow, ZeroOr}
-use Rattle.ahrs.specs.declared.Settings.{Settings}
-use Rattle.ahrs.specs.declared.Rejection.{Rejection}
+use Rattle.step.specs.declared.Settings.{Settings}
+use Rattle.step.specs.declared.Rejection.{Rejection}
 use Rattle.ahrs.specs.declared.Ahrs.{Ahrs}
-use Rattle.ahrs.specs.Config.{knownConvention, derivedOf}
+use Rattle.step.specs.Config.{knownConvention, derivedOf}
 use Rattle.ahrs.specs.Filter.{finiteState, freshOf}
 use Rattle.ahrs.specs.Calls.{startChecks}
 use Rattle.ahrs.specs.Runs.{Call, update, restart, skip-startup, set-settings, set-sample-period, set-quaternion, Step, stepOf, runOf}

@@ -11,8 +11,8 @@ use Rattle.rejection.specs.Step.{recoveryOf}
 use Rattle.ahrs.specs.declared.Ahrs.{Ahrs}
 use Rattle.ahrs.specs.declared.read.Flags.{Flags}
 use Rattle.ahrs.specs.declared.read.InternalStates.{InternalStates}
-use Rattle.ahrs.specs.Sensor.{countsOf, ratioOf}
-use Rattle.ahrs.specs.Filter.{half, halfGravityOf}
+use Rattle.step.specs.Sensor.{countsOf, ratioOf}
+use Rattle.step.specs.Direction.{half, halfGravityOf}
 
 -- gravity's direction in the sensor's frame
 unfoldable pub gravityOf : Ahrs → Vector

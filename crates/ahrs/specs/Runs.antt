@@ -8,11 +8,11 @@ use Rattle.answer.specs.declared.Answer.the-variants.{Refused}
 use Rattle.answer.specs.Refusals.{refusalOf, accepted}
 use Rattle.math.specs.declared.vector.Vector.{Vector}
 use Rattle.math.specs.declared.quaternion.Quaternion.{Quaternion}
-use Rattle.ahrs.specs.declared.Settings.{Settings}
+use Rattle.step.specs.declared.Settings.{Settings}
 use Rattle.ahrs.specs.declared.Ahrs.{Ahrs}
 use Rattle.ahrs.specs.declared.Reading.{Reading}
 use Rattle.ahrs.specs.declared.change.Change.{Change}
-use Rattle.ahrs.specs.Config.{derivedOf}
+use Rattle.step.specs.Config.{derivedOf}
 use Rattle.ahrs.specs.Filter.{restartedOf, skippedStartup, withSettings, withSamplePeriod, withQuaternion, steppedOf}
 use Rattle.ahrs.specs.Calls.{updateChecks, orientedOf, Updates, stateChecks, Restarts, SkipsStartup, settingsChecks, SetsSettings, periodChecks, SetsSamplePeriod, quaternionChecks, SetsQuaternion}
 

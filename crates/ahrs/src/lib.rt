@@ -2,35 +2,18 @@
 use answer::Answer;
 use math::Quaternion;
 use math::Vector;
+ghost use mathlib.Core.Path.{_≡_};
+ghost use Rattle.ahrs.specs.Filter.{finiteState};
 
 pub mod change; // change.rt: start, restart, and the calls that set something
-pub mod config; // config.rt: what is derived from the settings
 pub mod read; // read.rt: calls that only read
-pub mod sensor; // sensor.rt: one sensor's rejection step
 pub mod update; // update.rt: one update
 
 pub use change::Change;
 pub use change::Started;
-pub use config::Config;
-
-// The convention is 0 for NWU, 1 for ENU, 2 for NED. The two limits are of squared half residuals, in place of the Rust's angles.
-pub struct Settings {
-    pub sample_rate: f32,
-    pub convention: u8,
-    pub gain: f32,
-    pub gyroscope_range: f32,
-    pub acceleration_rejection_squared: f32,
-    pub magnetic_rejection_squared: f32,
-    pub rejection_timeout: f32,
-}
-
-// One sensor's rejection.
-pub struct Rejection {
-    pub half_residual: Vector,
-    pub recovery_trigger: i32,
-    pub recovery_threshold: i32,
-    pub ignored: bool,
-}
+pub use step::Config;
+pub use step::Rejection;
+pub use step::Settings;
 
 pub struct Ahrs {
     pub settings: Settings,
@@ -48,4 +31,24 @@ pub struct Ahrs {
 pub struct Reading {
     pub state: Ahrs,
     pub answer: Answer,
+}
+
+impl Ahrs {
+    pub(crate) fn is_finite(self) -> bool
+        ensures { λ r. ⌜ r ≡ finiteState self ⌝ }
+    {
+        let settings = self.settings;
+        let config = self.config;
+        let quaternion = self.quaternion;
+        let accelerometer = self.accelerometer;
+        let acceleration = self.acceleration;
+        let magnetic = self.magnetic;
+        settings.is_finite()
+            & config.is_finite()
+            & quaternion.is_finite()
+            & accelerometer.is_finite()
+            & number::is_finite(self.startup_gain)
+            & acceleration.is_finite()
+            & magnetic.is_finite()
+    }
 }

@@ -1,7 +1,7 @@
 -- What a test of several parts, or of what calls gave, says of its parts. Assumes nothing.
 use Prim.Native.Nat.{ℕ}
 use mathlib.Core.Path.{_≡_, refl, sym, ap, ap₂, _∙_}
-use mathlib.Core.Bool.{Bool, true, false, not, _&&_, _||_}
+use mathlib.Core.Bool.{Bool, true, false, not, _&&_, _||_, false≢true}
 use lib.Dec.{eqb}
 use borrow.Author.Tests.{eq-eqb, ne-eqb}
 
@@ -28,6 +28,19 @@ one e h = ap not (sym e) ∙ h
 
 pub two : {r s p q v : Bool} → r ≡ p → s ≡ q → not (r && s) ≡ v → not (p && q) ≡ v
 two e f h = ap not (sym (ap₂ _&&_ e f)) ∙ h
+
+pub three : {r s t p q u : Bool} → r ≡ p → s ≡ q → t ≡ u → (r && s && t) ≡ (p && q && u)
+three e f g = ap₂ _&&_ (ap₂ _&&_ e f) g
+
+-- ---- a test of the opposite
+
+pub untrue : (b : Bool) → not b ≡ true → b ≡ false
+untrue true h = absurd (false≢true h)
+untrue false h = refl
+
+pub still : (b : Bool) → not b ≡ false → b ≡ true
+still true h = refl
+still false h = absurd (false≢true (sym h))
 
 -- ---- two numbers
 

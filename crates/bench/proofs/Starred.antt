@@ -7,7 +7,7 @@ use Rattle.math.specs.Mounting.{mountingOf}
 use Rattle.remap.specs.First.{first}
 use Rattle.remap.specs.Names.{nameOf, same}
 use Rattle.remap.specs.Composition.{composeOf, inverseOf}
-use Rattle.ahrs.proofs.Bench.{starred-rows}
+use Rattle.step.proofs.Bench.{starred-rows}
 use Rattle.bench.specs.Starred.{Starred}
 
 pub starred : Starred

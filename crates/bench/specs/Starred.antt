@@ -7,7 +7,7 @@ use lib.IntN.{pos, negsuc}
 use lib.Ieee.{fin, binary32, ofBits, toBits, ofInt}
 use Rattle.root.specs.Root.{sqrtOf}
 use Rattle.remap.specs.Composition.{composeOf, inverseOf}
-use Rattle.ahrs.specs.Bench.{StarredRows}
+use Rattle.step.specs.Bench.{StarredRows}
 
 pub record Starred : Type 0 where
   -- root of 2.0 has bits 3FB504F3

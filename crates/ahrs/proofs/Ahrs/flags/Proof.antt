@@ -3,7 +3,7 @@ use mathlib.Core.Path.{refl}
 use Rattle.ahrs.specs.declared.read.FlagsRead.the-variants.{Refused}
 use Rattle.ahrs.specs.Read.{flagsOf}
 use Rattle.ahrs.specs.Calls.{flagsNumber, flagsValues}
-use Rattle.ahrs.proofs.Testing.{one}
+use Rattle.answer.proofs.Tests.{one}
 use Rattle.ahrs.proofs.Telling.{told-4, told-5, told}
 use Rattle.ahrs.proofs.Ahrs.flags.Statement.{statement}
 use Rattle.ahrs.proofs.Ahrs.flags.Tie as tie

@@ -6,7 +6,7 @@ use borrow.Author.Needs.{needs}
 use Rattle.ahrs.specs.declared.read.StatesRead.the-variants.{Refused}
 use Rattle.ahrs.specs.Read.{statesOf}
 use Rattle.ahrs.specs.Calls.{statesNumber, statesValues}
-use Rattle.ahrs.proofs.Testing.{one}
+use Rattle.answer.proofs.Tests.{one}
 use Rattle.ahrs.proofs.Telling.{told-4, told-5, told-7, told-finite}
 use Rattle.ahrs.proofs.Ahrs.internal_states.Statement.{statement}
 use Rattle.ahrs.proofs.Ahrs.internal_states.Tie as tie

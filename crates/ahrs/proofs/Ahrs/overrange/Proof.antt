@@ -4,7 +4,7 @@ use mir.Syntax.{w32}
 use mir.Val.{toZ, ofZ}
 use borrow.Author.Needs.{needs}
 use Rattle.ahrs.specs.Filter.{overrangeOf}
-use Rattle.ahrs.proofs.Testing.{untrue, still}
+use Rattle.answer.proofs.Tests.{untrue, still}
 use Rattle.ahrs.proofs.Ahrs.overrange.Statement.{statement}
 use Rattle.ahrs.proofs.Ahrs.overrange.Tie as tie
 

@@ -2,7 +2,7 @@
 use mathlib.Core.Path.{refl}
 use Rattle.ahrs.specs.declared.read.QuaternionRead.the-variants.{Refused}
 use Rattle.ahrs.specs.Calls.{quaternionNumber, quaternionValues}
-use Rattle.ahrs.proofs.Testing.{one}
+use Rattle.answer.proofs.Tests.{one}
 use Rattle.ahrs.proofs.Telling.{told-4, told-5, told}
 use Rattle.ahrs.proofs.Ahrs.quaternion.Statement.{statement}
 use Rattle.ahrs.proofs.Ahrs.quaternion.Tie as tie

@@ -1,7 +1,7 @@
 -- `ahrs::Ahrs::set_quaternion` meets its contract: each return by the checks before it. Assumes nothing.
 use mathlib.Core.Path.{refl, _∙_}
 use Rattle.answer.proofs.Answering.{passes, all-pass}
-use Rattle.ahrs.proofs.Testing.{one, two}
+use Rattle.answer.proofs.Tests.{one, two}
 use Rattle.ahrs.proofs.Changing.{changed-4, changed-5, becomes}
 use Rattle.ahrs.specs.Filter.{withQuaternion}
 use Rattle.ahrs.proofs.Ahrs.set_quaternion.Statement.{statement}

@@ -1,5 +1,5 @@
 -- `ahrs::Ahrs::set_settings` meets its contract: each return by the checks before it. Assumes nothing.
-use Rattle.ahrs.proofs.Testing.{one, two}
+use Rattle.answer.proofs.Tests.{one, two}
 use Rattle.ahrs.proofs.Changing.{changed-4, changed-5, settings-6, settings-7, settings-set}
 use Rattle.ahrs.proofs.Ahrs.set_settings.Statement.{statement}
 use Rattle.ahrs.proofs.Ahrs.set_settings.Tie as tie

@@ -2,7 +2,7 @@
 use mathlib.Core.Path.{refl}
 use Rattle.ahrs.specs.declared.read.SettingsRead.the-variants.{Refused}
 use Rattle.ahrs.specs.Calls.{settingsNumber, settingsValues}
-use Rattle.ahrs.proofs.Testing.{one}
+use Rattle.answer.proofs.Tests.{one}
 use Rattle.ahrs.proofs.Telling.{told-4, told-5, told}
 use Rattle.ahrs.proofs.Ahrs.settings.Statement.{statement}
 use Rattle.ahrs.proofs.Ahrs.settings.Tie as tie

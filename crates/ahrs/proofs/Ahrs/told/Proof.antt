@@ -2,7 +2,7 @@
 use mathlib.Core.Path.{refl}
 use Rattle.ahrs.specs.declared.read.VectorRead.the-variants.{Refused}
 use Rattle.ahrs.specs.Calls.{vectorNumber, vectorValues}
-use Rattle.ahrs.proofs.Testing.{one}
+use Rattle.answer.proofs.Tests.{one}
 use Rattle.ahrs.proofs.Telling.{told-4, told-5, told-7, told-finite}
 use Rattle.ahrs.proofs.Ahrs.told.Statement.{statement}
 use Rattle.ahrs.proofs.Ahrs.told.Tie as tie

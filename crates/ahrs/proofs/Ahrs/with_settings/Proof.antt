@@ -1,5 +1,5 @@
 -- `ahrs::Ahrs::with_settings` meets its contract: each return by the checks before it. Assumes nothing.
-use Rattle.ahrs.proofs.Testing.{one}
+use Rattle.answer.proofs.Tests.{one}
 use Rattle.ahrs.proofs.Starting.{start-4, start-5, start-6, start-7, start-fresh}
 use Rattle.ahrs.proofs.Ahrs.with_settings.Statement.{statement}
 use Rattle.ahrs.proofs.Ahrs.with_settings.Tie as tie

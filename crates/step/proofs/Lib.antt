@@ -1,0 +1,3 @@
+pub mod Judging
+pub mod Bench
+mod Wrong

@@ -1,0 +1,5 @@
+pub mod Config
+pub mod Sensor
+pub mod Direction
+pub mod Rate
+pub mod Bench

@@ -1,0 +1,35 @@
+-- 01, "Filter": the gain in use, the rate of turning, and the turn, in the Rust's operation order.
+use mathlib.Core.Bool.{Bool, true, false, cond}
+use lib.Ieee.{Float, binary32, ofBits, lt}
+use Rattle.number.specs.Float32.{_⊖_, _⊗_}
+use Rattle.math.specs.declared.vector.Vector.{Vector}
+use Rattle.math.specs.declared.quaternion.Quaternion.{Quaternion}
+use Rattle.math.specs.Vectors.{addOf, mulOf}
+use Rattle.math.specs.Quaternions as quaternion
+use Rattle.math.specs.Quaternions.{vectorProductOf}
+use Rattle.step.specs.declared.config.Config.{Config}
+use Rattle.step.specs.declared.rate.Ramped.{Ramped}
+use Rattle.step.specs.Direction.{half}
+
+-- pi / 180 as the Rust has it
+abbrev pub degToRad : Float
+degToRad = ofBits binary32 0x3c8e_fa35
+
+abbrev pub ramped : Bool → Float → Bool → Float → Ramped
+ramped startup startupGain recovery gain =
+    record { startup = startup; «startup_gain» = startupGain; «overrange_recovery» = recovery; gain = gain }
+
+-- it falls before use; startup ends when it is no longer above the gain
+unfoldable pub rampedOf : Config → Bool → Float → Bool → Ramped
+rampedOf c startup startupGain recovery =
+    let fallen = startupGain ⊖ c .«startup_gain_rate» in
+    cond startup
+    (cond (lt (c .gain) fallen) (ramped true fallen recovery fallen) (ramped false fallen false (c .gain)))
+    (ramped false startupGain recovery (c .gain))
+
+-- the gyroscope in half radians, and the feedback times the gain
+unfoldable pub rateOf : Vector → Vector → Float → Vector
+rateOf gyroscope feedback gain = addOf (mulOf gyroscope (degToRad ⊗ half)) (mulOf feedback gain)
+
+unfoldable pub integratedOf : Quaternion → Vector → Quaternion
+integratedOf q displacement = quaternion.normalizeOf (quaternion.addOf q (vectorProductOf q displacement))

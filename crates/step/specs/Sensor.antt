@@ -1,0 +1,84 @@
+-- 01, "Filter": one sensor's rejection step. Its counts are those of the crate `rejection`.
+use mathlib.Core.Bool.{Bool, true, false, not, cond, _||_}
+use Prim.Native.Nat.{zero, suc}
+use lib.IntN.{ℤ, pos, negsuc}
+use lib.Ieee.{Float, binary32, le, lt, ofInt}
+use Rattle.number.specs.Float32 as float
+use Rattle.number.specs.Float32.{_⊘_}
+use Rattle.math.specs.declared.vector.Vector.{Vector}
+use Rattle.math.specs.Vectors.{zeroVector, finiteVector, isZeroOf, normSquaredOf, dotOf, crossOf, normalizeOf}
+use Rattle.rejection.specs.declared.Counts.{Counts}
+use Rattle.rejection.specs.declared.Stepped.{Stepped}
+use Rattle.rejection.specs.Step.{stepOf}
+use Rattle.step.specs.declared.Rejection.{Rejection}
+use Rattle.step.specs.declared.config.Config.{Config}
+use Rattle.step.specs.declared.sensor.Feedback.{Feedback}
+
+abbrev pub countsOf : Rejection → Counts
+countsOf r = record { trigger = r .«recovery_trigger»; threshold = r .«recovery_threshold» }
+
+-- the cross product where the dot is above 0, otherwise the normalized cross
+unfoldable pub residualOf : Vector → Vector → Vector
+residualOf sensor reference =
+    cond (lt float.zero (dotOf sensor reference)) (crossOf sensor reference) (normalizeOf (crossOf sensor reference))
+
+unfoldable pub resetOf : ℤ → Rejection
+resetOf timeout =
+    record { «half_residual» = zeroVector; «recovery_trigger» = pos 0; «recovery_threshold» = timeout; ignored = false }
+
+-- an all-zero sensor is marked ignored; its trigger, threshold and residual stay
+unfoldable pub skippedOf : Rejection → Feedback
+skippedOf r =
+    record {
+      rejection =
+          record {
+            «half_residual» = r .«half_residual»;
+            «recovery_trigger» = r .«recovery_trigger»;
+            «recovery_threshold» = r .«recovery_threshold»;
+            ignored = true;
+          };
+      «half_feedback» = zeroVector;
+    }
+
+-- the counts of a step are kept, and the residual is used or ignored as it says; one that is ignored gives zero
+abbrev pub keptOf : Vector → Stepped → Feedback
+keptOf residual s =
+    record {
+      rejection =
+          record {
+            «half_residual» = residual;
+            «recovery_trigger» = s .counts .trigger;
+            «recovery_threshold» = s .counts .threshold;
+            ignored = not (s .used);
+          };
+      «half_feedback» = cond (s .used) residual zeroVector;
+    }
+
+-- a reading is good in startup, or where its squared residual is at most the limit
+unfoldable pub rejectedOf : Rejection → Vector → Bool → Float → ℤ → Feedback
+rejectedOf r residual startup limit timeout =
+    keptOf residual (stepOf timeout (countsOf r) (not (startup || le (normSquaredOf residual) limit)))
+
+-- the accelerometer against gravity
+unfoldable pub inclinationOf : Rejection → Vector → Vector → Bool → Config → Feedback
+inclinationOf r gravity accelerometer startup c =
+    cond (isZeroOf accelerometer) (skippedOf r)
+    (rejectedOf r (residualOf (normalizeOf accelerometer) gravity) startup (c .«acceleration_rejection») (c .«rejection_timeout»))
+
+-- the cross product of gravity and the magnetometer against west
+unfoldable pub headingOf : Rejection → Vector → Vector → Vector → Bool → Config → Feedback
+headingOf r gravity west magnetometer startup c =
+    cond (isZeroOf magnetometer) (skippedOf r)
+    (rejectedOf r (residualOf (normalizeOf (crossOf gravity magnetometer)) west) startup (c .«magnetic_rejection») (c .«rejection_timeout»))
+
+abbrev pub isNought : ℤ → Bool
+isNought (pos zero) = true
+isNought (pos (suc n)) = false
+isNought (negsuc n) = false
+
+-- the trigger ratio is 0.0 for T = 0, else both counts converted by round to nearest, ties to even, and divided
+unfoldable pub ratioOf : ℤ → ℤ → Float
+ratioOf trigger timeout = cond (isNought timeout) float.zero (ofInt binary32 trigger ⊘ ofInt binary32 timeout)
+
+unfoldable pub finiteRejection : Rejection → Bool
+finiteRejection r = finiteVector (r .«half_residual»)

@@ -1,0 +1,163 @@
+// One sensor's rejection step; its counts are the crate `rejection`'s.
+use super::Config;
+use super::Rejection;
+use math::Vector;
+use rejection::Counts;
+ghost use mathlib.Core.Path.{_≡_};
+ghost use Rattle.step.specs.Sensor.{resetOf, residualOf, skippedOf, rejectedOf, inclinationOf, headingOf, countsOf, ratioOf, finiteRejection};
+
+// A sensor's next rejection, and the feedback to apply, scaled by 0.5.
+pub struct Feedback {
+    pub rejection: Rejection,
+    pub half_feedback: Vector,
+}
+
+// The cross product where the dot is above 0, otherwise the normalized cross.
+pub fn residual(sensor: Vector, reference: Vector) -> Vector
+    ensures { λ r. ⌜ r ≡ residualOf sensor reference ⌝ }
+{
+    let cross = sensor.cross(reference);
+    if sensor.dot(reference) > 0.0 {
+        return cross;
+    }
+    cross.normalize()
+}
+
+impl Rejection {
+    // The Rust's `Rejection::new`.
+    pub fn reset(timeout: i32) -> Rejection
+        ensures { λ r. ⌜ r ≡ resetOf timeout ⌝ }
+    {
+        let half_residual = Vector::ZERO;
+        Rejection {
+            half_residual,
+            recovery_trigger: 0,
+            recovery_threshold: timeout,
+            ignored: false,
+        }
+    }
+
+    // An update with no measurement marks the sensor ignored.
+    pub fn skip(self) -> Feedback
+        ensures { λ r. ⌜ r ≡ skippedOf self ⌝ }
+    {
+        let half_residual = self.half_residual;
+        let half_feedback = Vector::ZERO;
+        Feedback {
+            rejection: Rejection {
+                half_residual,
+                recovery_trigger: self.recovery_trigger,
+                recovery_threshold: self.recovery_threshold,
+                ignored: true,
+            },
+            half_feedback,
+        }
+    }
+
+    pub fn counts(self) -> Counts
+        ensures { λ r. ⌜ r ≡ countsOf self ⌝ }
+    {
+        Counts {
+            trigger: self.recovery_trigger,
+            threshold: self.recovery_threshold,
+        }
+    }
+
+    // One rejection step with a new residual.
+    pub fn update(
+        self,
+        half_residual: Vector,
+        startup: bool,
+        rejection: f32,
+        timeout: i32,
+    ) -> Feedback
+        ensures { λ r. ⌜ r ≡ rejectedOf self «half_residual» startup rejection timeout ⌝ }
+    {
+        let good = startup | (half_residual.norm_squared() <= rejection);
+        let stepped = self.counts().step(!good, timeout);
+        let counts = stepped.counts;
+        if stepped.used {
+            return Feedback {
+                rejection: Rejection {
+                    half_residual,
+                    recovery_trigger: counts.trigger,
+                    recovery_threshold: counts.threshold,
+                    ignored: false,
+                },
+                half_feedback: half_residual,
+            };
+        }
+        let half_feedback = Vector::ZERO;
+        Feedback {
+            rejection: Rejection {
+                half_residual,
+                recovery_trigger: counts.trigger,
+                recovery_threshold: counts.threshold,
+                ignored: true,
+            },
+            half_feedback,
+        }
+    }
+
+    // The accelerometer's step.
+    pub fn inclination(
+        self,
+        half_gravity: Vector,
+        accelerometer: Vector,
+        startup: bool,
+        config: Config,
+    ) -> Feedback
+        ensures { λ r. ⌜ r ≡ inclinationOf self «half_gravity» accelerometer startup config ⌝ }
+    {
+        if accelerometer.is_zero() {
+            return self.skip();
+        }
+        let half_residual = residual(accelerometer.normalize(), half_gravity);
+        self.update(
+            half_residual,
+            startup,
+            config.acceleration_rejection,
+            config.rejection_timeout,
+        )
+    }
+
+    // The magnetometer's step.
+    pub fn heading(
+        self,
+        half_gravity: Vector,
+        half_west: Vector,
+        magnetometer: Vector,
+        startup: bool,
+        config: Config,
+    ) -> Feedback
+        ensures { λ r. ⌜ r ≡ headingOf self «half_gravity» «half_west» magnetometer startup config ⌝ }
+    {
+        if magnetometer.is_zero() {
+            return self.skip();
+        }
+        let half_residual = residual(half_gravity.cross(magnetometer).normalize(), half_west);
+        self.update(
+            half_residual,
+            startup,
+            config.magnetic_rejection,
+            config.rejection_timeout,
+        )
+    }
+
+    // The recovery trigger as a fraction of the timeout.
+    pub fn recovery_trigger(self, timeout: i32) -> f32
+        ensures { λ r. ⌜ r ≡ ratioOf (self .«recovery_trigger») timeout ⌝ }
+    {
+        if timeout == 0 {
+            return 0.0;
+        }
+        number::from_i32(self.recovery_trigger) / number::from_i32(timeout)
+    }
+
+    pub fn is_finite(self) -> bool
+        ensures { λ r. ⌜ r ≡ finiteRejection self ⌝ }
+    {
+        let half_residual = self.half_residual;
+        half_residual.is_finite()
+    }
+}
