@@ -1,0 +1,85 @@
+//! What a script reaches: a count for each answer of each call, and for each case that is easily missed.
+
+use crate::machine::Machine;
+use crate::record::{QUIET, Record, call};
+use crate::state::{self, ACCELERATION, LIMITS_USED, MAGNETIC, TIMEOUT};
+use fusion_ahrs::Vector;
+use std::collections::BTreeMap;
+use std::io::{self, Write};
+
+#[derive(Default)]
+pub struct Cover {
+    machine: Machine,
+    counts: BTreeMap<String, u64>,
+}
+
+impl Cover {
+    fn count(&mut self, name: &str, here: bool) {
+        *self.counts.entry(name.into()).or_default() += u64::from(here);
+    }
+
+    pub fn call(&mut self, r: &Record) {
+        let code = r[0] & !QUIET;
+        let before = self.machine.ahrs.is_some().then(|| self.machine.ahrs_words());
+        let bias = self.machine.bias.map(|b| state::of_bias(&b));
+        let number = self.machine.call(r).number;
+        self.count(&format!("{} {number}", call(code).unwrap().1), true);
+        if number != 0 {
+            return;
+        }
+        match (code, before, bias) {
+            (0x86, Some(before), _) => self.update(r, &before),
+            (0x62, _, Some(before)) => {
+                let after = state::of_bias(self.machine.bias.as_ref().unwrap());
+                self.count("> bias timer cleared", before[6] > 0 && after[6] == 0);
+                self.count("> bias timer up", after[6] > before[6]);
+                self.count("> bias offset moved", after[7..] != before[7..]);
+            }
+            _ => (),
+        }
+    }
+
+    fn update(&mut self, r: &Record, before: &[u32; 37]) {
+        let after = self.machine.ahrs_words();
+        let f = f32::from_bits;
+        let startup = after[22] == 1;
+        self.count("> overrange fired", before[10] == 1 && r[1..4].iter().any(|w| f(*w).abs() > f(before[11])));
+        self.count(
+            "> overrange at exactly the threshold",
+            before[10] == 1 && r[1..4].iter().any(|w| f(*w).abs() == f(before[11])),
+        );
+        self.count("> startup ended", before[22] == 1 && !startup);
+        self.count("> in startup", startup);
+        self.count("> T = 0", after[TIMEOUT] == 0);
+        self.count("> T = 2^31 - 1", after[TIMEOUT] == 0x7FFF_FFFF);
+        for (name, s, limit) in [("acceleration", ACCELERATION, LIMITS_USED), ("magnetic", MAGNETIC, LIMITS_USED + 1)] {
+            let given = &r[if s == ACCELERATION { 4..7 } else { 7..10 }];
+            if given.iter().all(|w| f(*w) == 0.0) {
+                self.count(&format!("> {name} skipped"), true);
+                continue;
+            }
+            let residual = Vector::new(f(after[s]), f(after[s + 1]), f(after[s + 2]));
+            let square = residual.norm_squared();
+            let (trigger, threshold) = (|w: &[u32; 37]| w[s + 3] as i32, |w: &[u32; 37]| w[s + 4] as i32);
+            let recovers = |w: &[u32; 37]| trigger(w) > threshold(w);
+            let mut at = |what: &str, here: bool| self.count(&format!("> {name} {what}"), here);
+            at("equal to its limit", !startup && square == f(after[limit]));
+            at("over its limit, ignored", after[s + 5] == 1);
+            at("over its limit, used in recovery", !startup && square > f(after[limit]) && after[s + 5] == 0);
+            at("recovery begins", !recovers(before) && recovers(&after));
+            at("recovery ends", recovers(before) && !recovers(&after));
+            at("trigger above T before", trigger(before) > before[TIMEOUT] as i32);
+            at("trigger moved", trigger(before) != trigger(&after));
+            at("residual zero", residual.is_zero());
+            // The cross product of a unit vector with half a unit one is at most half: a longer residual was normalized.
+            at("residual normalized", square > 0.5);
+        }
+    }
+
+    pub fn print(&self, out: &mut impl Write) -> io::Result<()> {
+        for (name, n) in &self.counts {
+            writeln!(out, "{n:9} {name}")?;
+        }
+        Ok(())
+    }
+}

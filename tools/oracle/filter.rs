@@ -1,0 +1,115 @@
+//! The calls of the filter. The settings hold angles in the Rust and squared limits in the port: a script gives both, and the
+//! Rust has to derive the limit from the angle.
+
+use crate::machine::{Answer, Machine, gives, refused};
+use crate::state;
+use crate::words::{all_finite, bits, f, of_q, of_v, q, v};
+use fusion_ahrs::{Ahrs, AhrsSettings, Convention};
+
+impl Machine {
+    pub fn ahrs(&mut self, code: u32, a: &[u32]) -> Answer {
+        if code == 0x80 || code == 0x81 {
+            return self.ahrs_settings(code, a);
+        }
+        let mut next = self.ahrs.clone().expect("the script starts no filter");
+        let reads = |words: &[u32]| if all_finite(words) { gives(words) } else { refused(7) };
+        match code {
+            0x82 if !state::finite(a[0]) => refused(5),
+            0x82 if !(f(a[0]) > 0.0) => refused(6),
+            0x82 => {
+                next.set_sample_period(f(a[0]));
+                self.keep_ahrs(next, [])
+            }
+            0x83 => {
+                next.restart();
+                self.keep_ahrs(next, [])
+            }
+            0x84 => {
+                next.skip_startup();
+                self.keep_ahrs(next, [])
+            }
+            0x85 if !all_finite(&a[..4]) => refused(5),
+            0x85 => {
+                next.set_quaternion(q(a));
+                self.keep_ahrs(next, [])
+            }
+            0x86 if !all_finite(&a[..9]) => refused(5),
+            0x86 => {
+                next.update(v(a), v(&a[3..]), v(&a[6..]));
+                let orientation = of_q(next.quaternion());
+                self.keep_ahrs(next, orientation)
+            }
+            0x87 => reads(&of_q(next.quaternion())),
+            0x88 => reads(&of_v(next.gravity())),
+            0x89 => reads(&of_v(next.linear_acceleration())),
+            0x8A => reads(&of_v(next.earth_acceleration())),
+            0x8B => {
+                let s = next.flags();
+                let flags = [s.startup, s.overrange_recovery, s.acceleration_recovery, s.magnetic_recovery];
+                gives(flags.map(u32::from))
+            }
+            0x8C => {
+                let s = next.internal_states();
+                reads(&[s.acceleration_recovery_trigger, s.magnetic_recovery_trigger].map(bits))
+            }
+            0x8D => {
+                let s = next.internal_states();
+                gives([s.accelerometer_ignored, s.magnetometer_ignored].map(u32::from))
+            }
+            0x8E => {
+                let s = next.settings();
+                let [w0, w2, w3, w6] = [s.sample_rate, s.gain, s.gyroscope_range, s.rejection_timeout].map(bits);
+                gives([w0, s.convention as u32, w2, w3, self.limits[0], self.limits[1], w6])
+            }
+            _ => panic!("the script has a call {code:02X}"),
+        }
+    }
+
+    fn ahrs_settings(&mut self, code: u32, a: &[u32]) -> Answer {
+        let [rate, convention, gain, range, acceleration, magnetic, timeout, acceleration_angle, magnetic_angle] =
+            *a.first_chunk::<9>().unwrap();
+        if convention > 2 {
+            return refused(4);
+        }
+        if !all_finite(&[rate, gain, range, acceleration, magnetic, timeout]) {
+            return refused(5);
+        }
+        if !(f(rate) > 0.0) || f(acceleration) < 0.0 || f(magnetic) < 0.0 || f(timeout) < 0.0 {
+            return refused(6);
+        }
+        for (limit, angle) in [(acceleration, acceleration_angle), (magnetic, magnetic_angle)] {
+            let derived = state::limit_of(f(angle)).to_bits();
+            assert!(derived == limit, "the script gives limit {limit:08X} for angle {angle:08X}, whose limit is {derived:08X}");
+        }
+        let settings = AhrsSettings {
+            sample_rate: f(rate),
+            convention: Convention::ALL[convention as usize],
+            gain: f(gain),
+            gyroscope_range: f(range),
+            acceleration_rejection: f(acceleration_angle),
+            magnetic_rejection: f(magnetic_angle),
+            rejection_timeout: f(timeout),
+        };
+        let next = if code == 0x80 {
+            Ahrs::with_settings(settings)
+        } else {
+            let mut next = self.ahrs.clone().expect("the script starts no filter");
+            next.set_settings(settings);
+            next
+        };
+        let answer = self.keep_ahrs(next, []);
+        if answer.number == 0 {
+            self.limits = [acceleration, magnetic];
+        }
+        answer
+    }
+
+    fn keep_ahrs(&mut self, next: Ahrs, answer: impl Into<Vec<u32>>) -> Answer {
+        let answer = answer.into();
+        if !state::ahrs_finite(&state::of_ahrs(&next)) || !all_finite(&answer) {
+            return refused(7);
+        }
+        self.ahrs = Some(next);
+        gives(answer)
+    }
+}

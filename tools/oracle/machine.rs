@@ -1,0 +1,107 @@
+//! One call after another on the Rust, with the refusal table laid over it: a call is tried on a copy of the state, and the
+//! copy is kept only where nothing refuses it.
+
+use crate::plain::{arithmetic, mountings};
+use crate::record::{QUIET, Record};
+use crate::state;
+use crate::words::of_q;
+use fusion_ahrs::{Ahrs, Bias};
+
+/// The answer to a call: the words that it carries, or a refusal's number with the words of the buffer that was lent.
+pub struct Answer {
+    pub number: u32,
+    pub words: Vec<u32>,
+}
+
+pub fn gives(words: impl Into<Vec<u32>>) -> Answer {
+    Answer { number: 0, words: words.into() }
+}
+
+pub fn refused(number: u32) -> Answer {
+    Answer { number, words: Vec::new() }
+}
+
+/// Which state a call works on, and so which one is printed after it.
+#[derive(PartialEq)]
+pub enum Side {
+    None,
+    Bias,
+    Ahrs,
+}
+
+#[derive(Default)]
+pub struct Machine {
+    pub ahrs: Option<Ahrs>,
+    /// The two squared limits as given; the Rust keeps the angles.
+    pub limits: [u32; 2],
+    pub bias: Option<Bias>,
+}
+
+/// Holds what was read from the Debug text to what the public functions say.
+fn agrees(ahrs: &Ahrs, w: &[u32; 37]) {
+    let (flags, inside) = (ahrs.flags(), ahrs.internal_states());
+    let recovers = |s: usize| w[s + 3] as i32 > w[s + 4] as i32;
+    assert_eq!(w[state::QUATERNION..state::QUATERNION + 4], of_q(ahrs.quaternion()));
+    assert_eq!([w[22], w[24]], [flags.startup, flags.overrange_recovery].map(u32::from));
+    assert_eq!(
+        [recovers(state::ACCELERATION), recovers(state::MAGNETIC)],
+        [flags.acceleration_recovery, flags.magnetic_recovery]
+    );
+    assert_eq!([w[30], w[36]], [inside.accelerometer_ignored, inside.magnetometer_ignored].map(u32::from));
+}
+
+pub fn side(code: u32) -> Side {
+    match code {
+        0x60..=0x6F => Side::Bias,
+        0x80..=0x8F => Side::Ahrs,
+        _ => Side::None,
+    }
+}
+
+impl Machine {
+    /// The filter's state, with the two limits as given in place of the angles.
+    pub fn ahrs_words(&self) -> [u32; 37] {
+        let ahrs = self.ahrs.as_ref().unwrap();
+        let mut w = state::of_ahrs(ahrs);
+        agrees(ahrs, &w);
+        w[state::LIMITS_GIVEN..state::LIMITS_GIVEN + 2].copy_from_slice(&self.limits);
+        w
+    }
+
+    /// The line that a call prints.
+    pub fn line(&mut self, r: &Record) -> String {
+        use std::fmt::Write;
+        let answer = self.call(r);
+        let mut out = String::with_capacity(400);
+        match answer.number {
+            0 => out.push('0'),
+            n => write!(out, "refused {n}").unwrap(),
+        }
+        for w in &answer.words {
+            write!(out, " {w:08X}").unwrap();
+        }
+        let shown: &[u32] = match side(r[0] & !QUIET) {
+            Side::Ahrs if r[0] & QUIET == 0 && self.ahrs.is_some() => &self.ahrs_words(),
+            Side::Bias if r[0] & QUIET == 0 && self.bias.is_some() => &state::of_bias(self.bias.as_ref().unwrap()),
+            _ => &[],
+        };
+        if !shown.is_empty() {
+            out.push_str(" /");
+        }
+        for w in shown {
+            write!(out, " {w:08X}").unwrap();
+        }
+        out
+    }
+
+    pub fn call(&mut self, r: &Record) -> Answer {
+        let (code, a) = (r[0] & !QUIET, &r[1..]);
+        match code {
+            0x10..=0x4F => gives(arithmetic(code, a)),
+            0x50..=0x5F => mountings(code, a),
+            0x60..=0x6F => self.bias(code, a),
+            0x80..=0x8F => self.ahrs(code, a),
+            _ => panic!("the script has a call {code:02X}"),
+        }
+    }
+}

@@ -1,0 +1,88 @@
+//! Answers call scripts by the Rust crate, and makes them. `oracle` with no argument says what it can do.
+
+mod cover;
+mod edge;
+mod estimator;
+mod filter;
+mod generate;
+mod machine;
+mod plain;
+mod random;
+mod record;
+mod state;
+mod walk;
+mod words;
+
+use std::io::{self, BufRead, BufReader, BufWriter, Write};
+
+const HELP: &str = "oracle run                            answer the script on standard input, a line for each call
+oracle make MODE SEED COUNT [QUIET]   a script of COUNT calls, one in QUIET (1) printing its state
+oracle text                           a script as text, a line for each call
+oracle binary                         text back to a script
+oracle cover                          what the calls of a script reach, counted
+oracle calls                          the number and the name of every call
+
+MODE is math, mounting, bias, log, edge, fuzz, mix (of all these) or sample (some of each).
+";
+
+fn run() -> io::Result<()> {
+    let args: Vec<String> = std::env::args().skip(1).collect();
+    let number = |i: usize| args.get(i).map(|s| s.parse::<u64>().expect("a whole number"));
+    let mut input = BufReader::with_capacity(1 << 16, io::stdin().lock());
+    let mut out = BufWriter::with_capacity(1 << 16, io::stdout().lock());
+    match args.first().map(String::as_str) {
+        Some("run") => {
+            let mut machine = machine::Machine::default();
+            while let Some(r) = record::read(&mut input)? {
+                writeln!(out, "{}", machine.line(&r))?;
+            }
+        }
+        Some("make") => {
+            let mut script = generate::Script {
+                random: random::Random(number(2).expect("SEED")),
+                machine: machine::Machine::default(),
+                out: &mut |r| out.write_all(&record::to_bytes(r)).expect("written"),
+                quiet: number(4).unwrap_or(1),
+                left: number(3).expect("COUNT"),
+                stuck: 0,
+            };
+            script.make(&args[1]);
+        }
+        Some("cover") => {
+            let mut cover = cover::Cover::default();
+            while let Some(r) = record::read(&mut input)? {
+                cover.call(&r);
+            }
+            cover.print(&mut out)?;
+        }
+        Some("text") => {
+            while let Some(r) = record::read(&mut input)? {
+                writeln!(out, "{}", record::to_text(&r))?;
+            }
+        }
+        Some("binary") => {
+            for line in input.lines() {
+                if let Some(r) = record::from_text(&line?).map_err(io::Error::other)? {
+                    out.write_all(&record::to_bytes(&r))?;
+                }
+            }
+        }
+        Some("calls") => {
+            for (code, name, _) in record::CALLS {
+                writeln!(out, "{code:02X} {name}")?;
+            }
+        }
+        _ => out.write_all(HELP.as_bytes())?,
+    }
+    out.flush()
+}
+
+fn main() -> std::process::ExitCode {
+    match run() {
+        Ok(()) => std::process::ExitCode::SUCCESS,
+        Err(e) => {
+            eprintln!("oracle: {e}");
+            std::process::ExitCode::FAILURE
+        }
+    }
+}

@@ -1,0 +1,56 @@
+//! Words of 32 bits to the Rust's types and back.
+
+use crate::state;
+use fusion_ahrs::{Matrix, Quaternion, Vector};
+
+/// A float's bits, with one pattern for every NaN.
+pub fn bits(x: f32) -> u32 {
+    if x.is_nan() { 0x7FC0_0000 } else { x.to_bits() }
+}
+
+pub fn f(w: u32) -> f32 {
+    f32::from_bits(w)
+}
+
+pub fn v(w: &[u32]) -> Vector {
+    Vector::new(f(w[0]), f(w[1]), f(w[2]))
+}
+
+pub fn q(w: &[u32]) -> Quaternion {
+    Quaternion::new(f(w[0]), f(w[1]), f(w[2]), f(w[3]))
+}
+
+pub fn m(w: &[u32]) -> Matrix {
+    Matrix::from_rows([[f(w[0]), f(w[1]), f(w[2])], [f(w[3]), f(w[4]), f(w[5])], [f(w[6]), f(w[7]), f(w[8])]])
+}
+
+pub fn of_v(v: Vector) -> [u32; 3] {
+    [bits(v.x), bits(v.y), bits(v.z)]
+}
+
+pub fn of_q(q: Quaternion) -> [u32; 4] {
+    [bits(q.w), bits(q.x), bits(q.y), bits(q.z)]
+}
+
+pub fn of_m(m: Matrix) -> [u32; 9] {
+    let mut out = [0; 9];
+    for (o, x) in out.iter_mut().zip(m.to_rows().as_flattened()) {
+        *o = bits(*x);
+    }
+    out
+}
+
+pub fn all_finite(words: &[u32]) -> bool {
+    words.iter().all(|w| state::finite(*w))
+}
+
+pub fn packed(bytes: &[u8]) -> Vec<u32> {
+    let word = |c: &[u8]| c.iter().rev().fold(0, |w, b| w << 8 | u32::from(*b));
+    bytes.chunks(4).map(word).collect()
+}
+
+pub fn unpacked(words: &[u32], len: u32) -> Vec<u8> {
+    let all: Vec<u8> = words.iter().flat_map(|w| w.to_le_bytes()).collect();
+    assert!(len as usize <= all.len(), "the script gives a length of {len}");
+    all[..len as usize].to_vec()
+}
