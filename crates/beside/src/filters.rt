@@ -1,14 +1,13 @@
 // The calls of the filter: 80 to 8E.
-use super::line::Lines;
-use super::line::put_number;
 use super::record::choice_at;
 use super::record::float_at;
 use super::record::quaternion_at;
 use super::record::vector_at;
-use super::states::put_state;
-use super::value::Value;
-use super::value::of_answer;
-use super::value::put_value;
+use super::said;
+use super::said::Said;
+use super::states::settings_words;
+use super::states::state_words;
+use super::words::Words;
 use ahrs::Ahrs;
 use ahrs::Change;
 use ahrs::Reading;
@@ -26,16 +25,16 @@ pub(crate) enum Filter {
     At(Ahrs),
 }
 
-// The state after a call, and what the call answers.
+// The state after a call, and what the call says.
 struct Told {
     state: Ahrs,
-    value: Value,
+    said: Said,
 }
 
-// The filter after a call, and the place behind the call's line.
+// The same, where there may be no state.
 pub(crate) struct Answered {
     pub filter: Filter,
-    pub at: usize,
+    pub said: Said,
 }
 
 // The angles of words 8 and 9 are for the Rust, which derives the two limits from them.
@@ -51,15 +50,23 @@ fn settings_at(record: &[u8]) -> Settings {
     }
 }
 
-fn unchanged(state: Ahrs, value: Value) -> Told {
-    Told { state, value }
+// The state as a line shows it; none before a start.
+pub(crate) fn words(filter: Filter) -> Words {
+    match filter {
+        Filter::Never => Words::none(),
+        Filter::At(ahrs) => state_words(ahrs),
+    }
+}
+
+fn unchanged(state: Ahrs, said: Said) -> Told {
+    Told { state, said }
 }
 
 fn changed(change: Change) -> Told {
     let state = change.state;
     Told {
         state,
-        value: Value::Number(change.number),
+        said: said::number(change.number),
     }
 }
 
@@ -68,54 +75,63 @@ fn read(reading: Reading) -> Told {
     let answer = reading.answer;
     Told {
         state,
-        value: of_answer(answer),
+        said: said::answer(answer),
     }
 }
 
-fn of_quaternion(read: QuaternionRead) -> Value {
+fn quaternion_of(read: QuaternionRead) -> Said {
     match read {
-        QuaternionRead::Read(q) => Value::Quaternion(q),
-        QuaternionRead::Refused(number) => Value::Number(number),
+        QuaternionRead::Read(q) => said::quaternion(q),
+        QuaternionRead::Refused(number) => said::number(number),
     }
 }
 
-fn of_vector(read: VectorRead) -> Value {
+fn vector_of(read: VectorRead) -> Said {
     match read {
-        VectorRead::Read(v) => Value::Vector(v),
-        VectorRead::Refused(number) => Value::Number(number),
+        VectorRead::Read(v) => said::vector(v),
+        VectorRead::Refused(number) => said::number(number),
     }
 }
 
-fn of_flags(read: FlagsRead) -> Value {
+fn flags_of(read: FlagsRead) -> Said {
     match read {
-        FlagsRead::Read(flags) => Value::Flags(flags),
-        FlagsRead::Refused(number) => Value::Number(number),
-    }
-}
-
-fn of_settings(read: SettingsRead) -> Value {
-    match read {
-        SettingsRead::Read(settings) => Value::Settings(settings),
-        SettingsRead::Refused(number) => Value::Number(number),
-    }
-}
-
-fn ratios_of(read: StatesRead) -> Value {
-    match read {
-        StatesRead::Read(states) => Value::Ratios(
-            states.acceleration_recovery_trigger,
-            states.magnetic_recovery_trigger,
+        FlagsRead::Read(flags) => said::words(
+            Words::none()
+                .flag(flags.startup)
+                .flag(flags.overrange_recovery)
+                .flag(flags.acceleration_recovery)
+                .flag(flags.magnetic_recovery),
         ),
-        StatesRead::Refused(number) => Value::Number(number),
+        FlagsRead::Refused(number) => said::number(number),
     }
 }
 
-fn marks_of(read: StatesRead) -> Value {
+fn ratios_of(read: StatesRead) -> Said {
     match read {
-        StatesRead::Read(states) => {
-            Value::Marks(states.accelerometer_ignored, states.magnetometer_ignored)
-        }
-        StatesRead::Refused(number) => Value::Number(number),
+        StatesRead::Read(states) => said::words(
+            Words::none()
+                .float(states.acceleration_recovery_trigger)
+                .float(states.magnetic_recovery_trigger),
+        ),
+        StatesRead::Refused(number) => said::number(number),
+    }
+}
+
+fn marks_of(read: StatesRead) -> Said {
+    match read {
+        StatesRead::Read(states) => said::words(
+            Words::none()
+                .flag(states.accelerometer_ignored)
+                .flag(states.magnetometer_ignored),
+        ),
+        StatesRead::Refused(number) => said::number(number),
+    }
+}
+
+fn settings_of(read: SettingsRead) -> Said {
+    match read {
+        SettingsRead::Read(settings) => said::words(settings_words(settings)),
+        SettingsRead::Refused(number) => said::number(number),
     }
 }
 
@@ -126,18 +142,18 @@ fn update(ahrs: Ahrs, record: &[u8]) -> Told {
     read(ahrs.update(gyroscope, accelerometer, magnetometer))
 }
 
-// What a call that only reads the state answers.
-fn value_of(ahrs: Ahrs, call: u32) -> Value {
+// What a call that only reads the state says.
+fn said_of(ahrs: Ahrs, call: u32) -> Said {
     match call {
-        0x87 => of_quaternion(ahrs.quaternion()),
-        0x88 => of_vector(ahrs.gravity()),
-        0x89 => of_vector(ahrs.linear_acceleration()),
-        0x8A => of_vector(ahrs.earth_acceleration()),
-        0x8B => of_flags(ahrs.flags()),
+        0x87 => quaternion_of(ahrs.quaternion()),
+        0x88 => vector_of(ahrs.gravity()),
+        0x89 => vector_of(ahrs.linear_acceleration()),
+        0x8A => vector_of(ahrs.earth_acceleration()),
+        0x8B => flags_of(ahrs.flags()),
         0x8C => ratios_of(ahrs.internal_states()),
         0x8D => marks_of(ahrs.internal_states()),
-        0x8E => of_settings(ahrs.settings()),
-        _ => Value::Number(1),
+        0x8E => settings_of(ahrs.settings()),
+        _ => said::number(1),
     }
 }
 
@@ -149,55 +165,40 @@ fn tell(ahrs: Ahrs, call: u32, record: &[u8]) -> Told {
         0x84 => changed(ahrs.skip_startup()),
         0x85 => changed(ahrs.set_quaternion(quaternion_at(record, 1))),
         0x86 => update(ahrs, record),
-        _ => unchanged(ahrs, value_of(ahrs, call)),
+        _ => unchanged(ahrs, said_of(ahrs, call)),
     }
-}
-
-fn shown(state: Ahrs, quiet: bool, out: &mut Lines, at: usize) -> Answered {
-    let filter = Filter::At(state);
-    if quiet {
-        return Answered { filter, at };
-    }
-    let at = put_state(out, at, state);
-    Answered { filter, at }
 }
 
 // A start; one that is refused leaves the filter that was.
-fn start(filter: Filter, record: &[u8], quiet: bool, out: &mut Lines, at: usize) -> Answered {
+fn start(filter: Filter, record: &[u8]) -> Answered {
     match Ahrs::with_settings(settings_at(record)) {
-        Started::Fresh(fresh) => {
-            let at = put_number(out, at, 0);
-            shown(fresh, quiet, out, at)
-        }
-        Started::Refused(number) => {
-            let at = put_number(out, at, number);
-            match filter {
-                Filter::At(state) => shown(state, quiet, out, at),
-                Filter::Never => Answered { filter, at },
-            }
-        }
+        Started::Fresh(fresh) => Answered {
+            filter: Filter::At(fresh),
+            said: said::number(0),
+        },
+        Started::Refused(number) => Answered {
+            filter,
+            said: said::number(number),
+        },
     }
 }
 
-// Answers a call, and prints the state after it unless quiet. Before a start was accepted every other call is refused with 1.
-pub(crate) fn answer(
-    filter: Filter,
-    call: u32,
-    record: &[u8],
-    quiet: bool,
-    out: &mut Lines,
-    at: usize,
-) -> Answered {
+// Before a start was accepted every other call is refused with 1.
+pub(crate) fn answer(filter: Filter, call: u32, record: &[u8]) -> Answered {
     if call == 0x80 {
-        return start(filter, record, quiet, out, at);
+        return start(filter, record);
     }
     let Filter::At(ahrs) = filter else {
-        let at = put_number(out, at, 1);
-        return Answered { filter, at };
+        return Answered {
+            filter: Filter::Never,
+            said: said::number(1),
+        };
     };
     let told = tell(ahrs, call, record);
     let state = told.state;
-    let value = told.value;
-    let at = put_value(out, at, value);
-    shown(state, quiet, out, at)
+    let said = told.said;
+    Answered {
+        filter: Filter::At(state),
+        said,
+    }
 }

@@ -1,10 +1,9 @@
-// The lines of a block of records: a number, and words of eight hex digits, one behind the other.
+// The lines of a block of records: a number, and words of eight hexadecimal digits.
 //
 // Each function writes at a place and answers the place behind. What has no room is left out; the room is for 64 lines of 1,024
 // bytes, and no line has more than 678 (64 words of a lent buffer and 10 of a state).
-use math::Matrix;
-use math::Quaternion;
-use math::Vector;
+use super::words::MOST;
+use super::words::Words;
 
 pub(crate) const ROOM: usize = 65536;
 
@@ -38,14 +37,14 @@ pub(crate) fn put_number(out: &mut Lines, at: usize, number: u8) -> usize {
     at + 9
 }
 
-// The last hex digit.
+// The last hexadecimal digit.
 fn digit(n: u32) -> u8 {
     let d = (n % 16) as u8;
     if d < 10 { d + b'0' } else { d + 55 }
 }
 
 // A space and the word.
-pub(crate) fn put_word(out: &mut Lines, at: usize, word: u32) -> usize {
+fn put_word(out: &mut Lines, at: usize, word: u32) -> usize {
     if at > ROOM - 9 {
         return at;
     }
@@ -61,40 +60,27 @@ pub(crate) fn put_word(out: &mut Lines, at: usize, word: u32) -> usize {
     at + 9
 }
 
-pub(crate) fn put_float(out: &mut Lines, at: usize, x: f32) -> usize {
-    put_word(out, at, wire::bits_of(x))
-}
-
-pub(crate) fn put_flag(out: &mut Lines, at: usize, flag: bool) -> usize {
-    let word = if flag { 1 } else { 0 };
-    put_word(out, at, word)
-}
-
-// The word of a signed number, in two's complement.
-fn bits_of_whole(n: i32) -> u32 {
-    if n < 0 {
-        return !((-1 - n) as u32);
+pub(crate) fn put_words(out: &mut Lines, at: usize, words: Words) -> usize {
+    let n = words.n;
+    let all = words.all;
+    let mut place = at;
+    let mut i = 0;
+    while i < MOST {
+        if i >= n {
+            return place;
+        }
+        place = put_word(out, place, all[i]);
+        i += 1;
     }
-    n as u32
+    place
 }
 
-pub(crate) fn put_whole(out: &mut Lines, at: usize, n: i32) -> usize {
-    put_word(out, at, bits_of_whole(n))
-}
-
-pub(crate) fn put_vector(out: &mut Lines, at: usize, v: Vector) -> usize {
-    let at_y = put_float(out, at, v.x);
-    let at_z = put_float(out, at_y, v.y);
-    put_float(out, at_z, v.z)
-}
-
-pub(crate) fn put_quaternion(out: &mut Lines, at: usize, q: Quaternion) -> usize {
-    let at_vector = put_float(out, at, q.w);
-    put_vector(out, at_vector, Vector::new(q.x, q.y, q.z))
-}
-
-pub(crate) fn put_matrix(out: &mut Lines, at: usize, m: Matrix) -> usize {
-    let at_y = put_vector(out, at, Vector::new(m.xx, m.xy, m.xz));
-    let at_z = put_vector(out, at_y, Vector::new(m.yx, m.yy, m.yz));
-    put_vector(out, at_z, Vector::new(m.zx, m.zy, m.zz))
+// A state behind an answer, where there is one to print.
+pub(crate) fn put_state(out: &mut Lines, at: usize, state: Words) -> usize {
+    if state.n == 0 {
+        return at;
+    }
+    let space = put_byte(out, at, b' ');
+    let slash = put_byte(out, space, b'/');
+    put_words(out, slash, state)
 }

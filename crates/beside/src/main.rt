@@ -9,20 +9,22 @@ mod mountings;
 mod numbers;
 mod quaternions;
 mod record;
+mod said;
 mod states;
-mod value;
 mod vectors;
+mod words;
 
 use biases::Estimator;
 use filters::Filter;
 use line::Lines;
 use line::put_byte;
 use line::put_number;
+use line::put_state;
+use line::put_words;
 use record::RECORD;
 use record::word_at;
-use value::put_value;
-ghost use Prim.Native.Nat.{_≤_};
-ghost use lib.ListN.{length};
+use said::Said;
+use words::Words;
 
 // The two states that calls change.
 struct Machine {
@@ -30,8 +32,15 @@ struct Machine {
     filter: Filter,
 }
 
-// The states after calls, and the place behind their lines.
+// The states after a call, what it says, and the state to print behind it.
 struct Answered {
+    machine: Machine,
+    said: Said,
+    shown: Words,
+}
+
+// The states after some calls, and the place behind their lines.
+struct Printed {
     machine: Machine,
     at: usize,
 }
@@ -42,98 +51,109 @@ struct Turn {
     more: bool,
 }
 
-// The records of one read.
+// The bytes of one read.
 const BLOCK: usize = 4096;
 
-fn answer_bias(
-    machine: Machine,
-    call: u32,
-    record: &[u8],
-    quiet: bool,
-    out: &mut Lines,
-    at: usize,
-) -> Answered {
-    let estimator = machine.estimator;
+fn answer_bias(machine: Machine, call: u32, record: &[u8], quiet: bool) -> Answered {
+    let before = machine.estimator;
     let filter = machine.filter;
-    let answered = biases::answer(estimator, call, record, quiet, out, at);
+    let answered = biases::answer(before, call, record);
     let estimator = answered.estimator;
+    let said = answered.said;
+    let shown = if quiet {
+        Words::none()
+    } else {
+        biases::words(estimator)
+    };
     Answered {
         machine: Machine { estimator, filter },
-        at: answered.at,
+        said,
+        shown,
     }
 }
 
-fn answer_filter(
-    machine: Machine,
-    call: u32,
-    record: &[u8],
-    quiet: bool,
-    out: &mut Lines,
-    at: usize,
-) -> Answered {
+fn answer_filter(machine: Machine, call: u32, record: &[u8], quiet: bool) -> Answered {
     let estimator = machine.estimator;
-    let filter = machine.filter;
-    let answered = filters::answer(filter, call, record, quiet, out, at);
+    let before = machine.filter;
+    let answered = filters::answer(before, call, record);
     let filter = answered.filter;
+    let said = answered.said;
+    let shown = if quiet {
+        Words::none()
+    } else {
+        filters::words(filter)
+    };
     Answered {
         machine: Machine { estimator, filter },
-        at: answered.at,
+        said,
+        shown,
     }
 }
 
-// The line of a call that changes no state; of no call, `refused 1`.
-fn put_plain(call: u32, record: &[u8], out: &mut Lines, at: usize) -> usize {
+// What a call says that changes no state; a number that is no call's is refused with 1.
+fn said_plainly(call: u32, record: &[u8]) -> Said {
     match call {
-        0x10..=0x1F => put_value(out, at, vectors::answer(call, record)),
-        0x20..=0x2F => put_value(out, at, matrices::answer(call, record)),
-        0x30..=0x3F => put_value(out, at, quaternions::answer(call, record)),
-        0x40..=0x4F => put_value(out, at, numbers::answer(call, record)),
-        0x50..=0x5F => mountings::answer(call, record, out, at),
-        _ => put_number(out, at, 1),
+        0x10..=0x1F => vectors::answer(call, record),
+        0x20..=0x2F => matrices::answer(call, record),
+        0x30..=0x3F => quaternions::answer(call, record),
+        0x40..=0x4F => numbers::answer(call, record),
+        0x50..=0x5F => mountings::answer(call, record),
+        _ => said::number(1),
     }
 }
 
-fn answer(machine: Machine, record: &[u8], out: &mut Lines, at: usize) -> Answered {
+fn answer(machine: Machine, record: &[u8]) -> Answered {
     let word = word_at(record, 0);
     let quiet = word / 0x100 == 1;
     let call = if quiet { word % 0x100 } else { word };
     match call {
-        0x60..=0x69 => answer_bias(machine, call, record, quiet, out, at),
-        0x80..=0x8E => answer_filter(machine, call, record, quiet, out, at),
+        0x60..=0x69 => answer_bias(machine, call, record, quiet),
+        0x80..=0x8E => answer_filter(machine, call, record, quiet),
         _ => Answered {
             machine,
-            at: put_plain(call, record, out, at),
+            said: said_plainly(call, record),
+            shown: Words::none(),
         },
     }
 }
 
-fn answer_line(machine: Machine, record: &[u8], out: &mut Lines, at: usize) -> Answered {
-    let answered = answer(machine, record, out, at);
-    let machine = answered.machine;
-    Answered {
-        machine,
-        at: put_byte(out, answered.at, b'\n'),
+fn print(answered: Answered, out: &mut Lines, at: usize) -> usize {
+    let said = answered.said;
+    let words = said.words;
+    let shown = answered.shown;
+    let at_words = put_number(out, at, said.number);
+    let at_state = put_words(out, at_words, words);
+    let at_end = put_state(out, at_state, shown);
+    put_byte(out, at_end, b'\n')
+}
+
+fn print_answer(machine: Machine, record: &[u8], out: &mut Lines, at: usize) -> Printed {
+    let answered = answer(machine, record);
+    let after = answered.machine;
+    Printed {
+        machine: after,
+        at: print(answered, out, at),
     }
 }
 
-fn answer_all(machine: Machine, block: &[u8], out: &mut Lines) -> Answered {
+fn print_all(machine: Machine, block: &[u8], out: &mut Lines) -> Printed {
     let mut machine = machine;
     let mut at = 0;
     let mut from = 0;
     while block.len() - from >= RECORD {
-        let answered = answer_line(machine, &block[from..from + RECORD], out, at);
-        machine = answered.machine;
-        at = answered.at;
+        let printed = print_answer(machine, &block[from..from + RECORD], out, at);
+        machine = printed.machine;
+        at = printed.at;
         from += RECORD;
     }
     if from < block.len() {
         let end = put_number(out, at, 1);
         at = put_byte(out, end, b'\n');
     }
-    Answered { machine, at }
+    Printed { machine, at }
 }
 
-fn print_part(lines: &[u8], n: usize) -> bool {
+fn write_part(lines: &[u8], n: usize) -> bool {
     if n > lines.len() {
         return false;
     }
@@ -141,21 +161,21 @@ fn print_part(lines: &[u8], n: usize) -> bool {
 }
 
 // It takes the array, so that a caller that had it written has nothing to prove of its length.
-fn print(lines: &Lines, n: usize) -> bool {
-    print_part(lines, n)
+fn write(lines: &Lines, n: usize) -> bool {
+    write_part(lines, n)
 }
 
-// Reads a block of records, and prints its lines. The input ends with a block that is not full, the program also where a write fails.
+// Reads a block of records, and writes its lines. A block that is not full is the last, and so is one whose lines cannot be written.
 fn read_on(machine: Machine) -> Turn {
     let mut block = io::buffer();
     let n = io::read_full(libc::STDIN_FILENO, &mut block);
     let mut out = io::large_buffer();
-    let answered = answer_all(machine, &block[..n], &mut out);
-    let machine = answered.machine;
-    let printed = print(&out, answered.at);
+    let printed = print_all(machine, &block[..n], &mut out);
+    let machine = printed.machine;
+    let written = write(&out, printed.at);
     Turn {
         machine,
-        more: printed & (n == BLOCK),
+        more: written & (n == BLOCK),
     }
 }
 

@@ -2,14 +2,15 @@
 use super::record::float_at;
 use super::record::matrix;
 use super::record::vector_at;
-use super::value::Value;
+use super::said;
+use super::said::Said;
 
-pub(crate) fn answer(call: u32, record: &[u8]) -> Value {
+pub(crate) fn answer(call: u32, record: &[u8]) -> Said {
     let m = matrix(record);
     match call {
-        0x20 => Value::Matrix(m.transpose()),
-        0x21 => Value::Matrix(m.mul(float_at(record, 10))),
-        0x22 => Value::Vector(m.mul_vector(vector_at(record, 10))),
-        _ => Value::Number(1),
+        0x20 => said::matrix(m.transpose()),
+        0x21 => said::matrix(m.mul(float_at(record, 10))),
+        0x22 => said::vector(m.mul_vector(vector_at(record, 10))),
+        _ => said::number(1),
     }
 }

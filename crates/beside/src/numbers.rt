@@ -1,20 +1,21 @@
 // The calls of numbers: 40 to 46.
 use super::record::float_at;
 use super::record::whole_at;
-use super::value::Value;
+use super::said;
+use super::said::Said;
 
-pub(crate) fn answer(call: u32, record: &[u8]) -> Value {
+pub(crate) fn answer(call: u32, record: &[u8]) -> Said {
     let x = float_at(record, 1);
     let a = whole_at(record, 1);
     let b = whole_at(record, 2);
     match call {
-        0x40 => Value::Float(root::sqrtf(x)),
-        0x41 => Value::Float(number::fabsf(x)),
-        0x42 => Value::Whole(number::to_i32(x)),
-        0x43 => Value::Word(number::to_u32(x)),
-        0x44 => Value::Float(number::from_i32(a)),
-        0x45 => Value::Whole(number::saturating_add(a, b)),
-        0x46 => Value::Whole(number::saturating_sub(a, b)),
-        _ => Value::Number(1),
+        0x40 => said::float(root::sqrtf(x)),
+        0x41 => said::float(number::fabsf(x)),
+        0x42 => said::whole(number::to_i32(x)),
+        0x43 => said::word(number::to_u32(x)),
+        0x44 => said::float(number::from_i32(a)),
+        0x45 => said::whole(number::saturating_add(a, b)),
+        0x46 => said::whole(number::saturating_sub(a, b)),
+        _ => said::number(1),
     }
 }

@@ -2,25 +2,26 @@
 use super::record::float_at;
 use super::record::quaternion_at;
 use super::record::vector_at;
-use super::value::Value;
+use super::said;
+use super::said::Said;
 
-pub(crate) fn answer(call: u32, record: &[u8]) -> Value {
+pub(crate) fn answer(call: u32, record: &[u8]) -> Said {
     let q = quaternion_at(record, 1);
     let rhs = quaternion_at(record, 5);
     let v = vector_at(record, 5);
     match call {
-        0x30 => Value::Float(q.sum()),
-        0x31 => Value::Quaternion(q.hadamard(rhs)),
-        0x32 => Value::Quaternion(q.vector_product(v)),
-        0x33 => Value::Quaternion(q.conjugate()),
-        0x34 => Value::Float(q.norm_squared()),
-        0x35 => Value::Float(q.norm()),
-        0x36 => Value::Quaternion(q.normalize()),
-        0x37 => Value::Matrix(q.to_matrix()),
-        0x38 => Value::Vector(q.rotate(v)),
-        0x39 => Value::Quaternion(q.add(rhs)),
-        0x3A => Value::Quaternion(q.mul(float_at(record, 5))),
-        0x3B => Value::Quaternion(q.product(rhs)),
-        _ => Value::Number(1),
+        0x30 => said::float(q.sum()),
+        0x31 => said::quaternion(q.hadamard(rhs)),
+        0x32 => said::quaternion(q.vector_product(v)),
+        0x33 => said::quaternion(q.conjugate()),
+        0x34 => said::float(q.norm_squared()),
+        0x35 => said::float(q.norm()),
+        0x36 => said::quaternion(q.normalize()),
+        0x37 => said::matrix(q.to_matrix()),
+        0x38 => said::vector(q.rotate(v)),
+        0x39 => said::quaternion(q.add(rhs)),
+        0x3A => said::quaternion(q.mul(float_at(record, 5))),
+        0x3B => said::quaternion(q.product(rhs)),
+        _ => said::number(1),
     }
 }

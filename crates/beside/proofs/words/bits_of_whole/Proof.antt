@@ -1,4 +1,4 @@
--- `beside::line::bits_of_whole` is safe: of a number below zero, one less than its negation is not below zero. Assumes nothing.
+-- `beside::words::bits_of_whole` is safe: of a number below zero, one less than its negation is not below zero. Assumes nothing.
 use Prim.Native.Nat.{ℕ, suc}
 use native.Mathlib.Omega.{arith}
 use mathlib.Core.Bool.{true, false, true≢false}
@@ -11,8 +11,8 @@ use lib.Signed.{ltZ, nonNeg}
 use mir.Facts.{toZ-ofZ}
 use mir.Syntax.{w32}
 use mir.Val.{Fits, SFits}
-use Rattle.beside.proofs.line.bits_of_whole.Statement.{statement}
-use Rattle.beside.proofs.line.bits_of_whole.Tie as tie
+use Rattle.beside.proofs.words.bits_of_whole.Statement.{statement}
+use Rattle.beside.proofs.words.bits_of_whole.Tie as tie
 
 flipped : (k : ℕ) → negsuc 0 -ℤ negsuc k ≡ pos k
 flipped k = simp (le-ltb (suc k) 1 (omega arith)) (ap pos (omega arith))

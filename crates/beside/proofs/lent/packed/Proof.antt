@@ -1,15 +1,18 @@
--- `beside::lent::put_packed` is safe and ends: the measure is how many bytes are left. Assumes nothing.
+-- `beside::lent::packed` is safe and ends: the measure is how many bytes are left. Assumes nothing.
 use Prim.Native.Nat.{_≤_, _-_}
 use lib.ListN.{length}
 use borrow.Author.Needs.{needs}
-use Rattle.beside.proofs.lent.put_packed.Statement.{statement}
-use Rattle.beside.proofs.lent.put_packed.Tie as tie
+use Rattle.beside.proofs.lent.packed.Statement.{statement}
+use Rattle.beside.proofs.lent.packed.Tie as tie
 
 abbrev Inv-loop : tie.InvT-loop
-Inv-loop out₀ at bytes place₀ i₀ out place i = i ≤ length bytes
+Inv-loop bytes words₀ i₀ words i = i ≤ length bytes
 
 abbrev μ-loop : tie.MeasureT-loop
-μ-loop out₀ at bytes place₀ i₀ out place i = length bytes - i
+μ-loop bytes words₀ i₀ words i = length bytes - i
+
+none-requires : tie.Need-none-requires Inv-loop μ-loop
+none-requires c κs = search needs
 
 loop-holds : tie.Need-loop-holds Inv-loop μ-loop
 loop-holds c = search needs
@@ -17,8 +20,8 @@ loop-holds c = search needs
 bits-at-requires : tie.Need-bits-at-requires Inv-loop μ-loop
 bits-at-requires c κs = search needs
 
-put-word-requires : tie.Need-put-word-requires Inv-loop μ-loop
-put-word-requires c κs = search needs
+word-requires : tie.Need-word-requires Inv-loop μ-loop
+word-requires c κs = search needs
 
 sub-if1 : tie.Need-sub-if1 Inv-loop μ-loop
 sub-if1 c = search needs
@@ -41,15 +44,16 @@ loop-again-2 c = search needs
 returns : tie.Need-returns Inv-loop μ-loop
 returns c = search needs
 
-pub put-packed-spec : {M : Type 1} → statement M
-put-packed-spec =
+pub packed-spec : {M : Type 1} → statement M
+packed-spec =
     tie.close
     (tie.spec
     Inv-loop
     μ-loop
+    none-requires
     loop-holds
     bits-at-requires
-    put-word-requires
+    word-requires
     sub-if1
     add-i
     loop-less

@@ -1,9 +1,9 @@
--- `beside::answer_all` is safe and ends: the measure is how many bytes of the block are left. Assumes nothing.
+-- `beside::print_all` is safe and ends: the measure is how many bytes of the block are left. Assumes nothing.
 use Prim.Native.Nat.{_≤_, _-_}
 use lib.ListN.{length}
 use borrow.Author.Needs.{needs}
-use Rattle.beside.proofs.answer_all.Statement.{statement}
-use Rattle.beside.proofs.answer_all.Tie as tie
+use Rattle.beside.proofs.print_all.Statement.{statement}
+use Rattle.beside.proofs.print_all.Tie as tie
 
 abbrev Inv-loop : tie.InvT-loop
 Inv-loop block out₀ machine₀ at₀ from₀ out machine at from = from ≤ length block
@@ -17,20 +17,20 @@ loop-holds c = search needs
 sub-loop : tie.Need-sub-loop Inv-loop μ-loop
 sub-loop c = search needs
 
-add-answer-line : tie.Need-add-answer-line Inv-loop μ-loop
-add-answer-line c = search needs
+add-print-answer : tie.Need-add-print-answer Inv-loop μ-loop
+add-print-answer c = search needs
 
-sub-answer-line : tie.Need-sub-answer-line Inv-loop μ-loop
-sub-answer-line c = search needs
+sub-print-answer : tie.Need-sub-print-answer Inv-loop μ-loop
+sub-print-answer c = search needs
 
-part-answer-line-start : tie.Need-part-answer-line-start Inv-loop μ-loop
-part-answer-line-start c = search needs
+part-print-answer-start : tie.Need-part-print-answer-start Inv-loop μ-loop
+part-print-answer-start c = search needs
 
-part-answer-line-end : tie.Need-part-answer-line-end Inv-loop μ-loop
-part-answer-line-end c = search needs
+part-print-answer-end : tie.Need-part-print-answer-end Inv-loop μ-loop
+part-print-answer-end c = search needs
 
-answer-line-requires : tie.Need-answer-line-requires Inv-loop μ-loop
-answer-line-requires c κs = search needs
+print-answer-requires : tie.Need-print-answer-requires Inv-loop μ-loop
+print-answer-requires c κs = search needs
 
 add-from : tie.Need-add-from Inv-loop μ-loop
 add-from c = search needs
@@ -53,19 +53,19 @@ returns c = search needs
 returns-2 : tie.Need-returns-2 Inv-loop μ-loop
 returns-2 c = search needs
 
-pub answer-all-spec : {M : Type 1} → statement M
-answer-all-spec =
+pub print-all-spec : {M : Type 1} → statement M
+print-all-spec =
     tie.close
     (tie.spec
     Inv-loop
     μ-loop
     loop-holds
     sub-loop
-    add-answer-line
-    sub-answer-line
-    part-answer-line-start
-    part-answer-line-end
-    answer-line-requires
+    add-print-answer
+    sub-print-answer
+    part-print-answer-start
+    part-print-answer-end
+    print-answer-requires
     add-from
     loop-less
     loop-again
