@@ -98,9 +98,9 @@ def oracle(sources, libm_folder=None):
     """Builds all that is not built yet, and answers the oracle's path."""
     if not shutil.which("rustc"):
         stop("the Rust compiler is missing: no command rustc on the path")
-    root = libm(libm_folder)
     rust = BUILD / "fusion-ahrs"
     laid_out(pathlib.Path(sources), rust)
+    root = libm(libm_folder)
     stamp, now = BUILD / "stamp", print_of(rust, ORACLE, root.parent)
     if stamp.is_file() and stamp.read_text() == now and (BUILD / "oracle").is_file():
         return BUILD / "oracle"
