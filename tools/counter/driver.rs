@@ -1,0 +1,115 @@
+//! One driver for both sides: a bench is a function of a log in memory and a count, which makes `count` calls and answers a sum.
+//! The port's are the loops of crates/cost; the Rust's do the same work, so both give the same sum.
+
+use fusion_ahrs::{Ahrs, AhrsSettings, Bias, RemapAlignment, Vector, remap};
+use std::time::Instant;
+
+/// SplitMix64.
+struct Random(u64);
+
+impl Random {
+    fn next(&mut self) -> u64 {
+        self.0 = self.0.wrapping_add(0x9E37_79B9_7F4A_7C15);
+        let mut z = self.0;
+        z = (z ^ (z >> 30)).wrapping_mul(0xBF58_476D_1CE4_E5B9);
+        z = (z ^ (z >> 27)).wrapping_mul(0x94D0_49BB_1331_11EB);
+        z ^ (z >> 31)
+    }
+}
+
+/// 1000 readings of nine floats, level with noise; then what the port starts with, out of its compiler's sight: the filter's
+/// rate, gain, range, two squared limits (10 degrees) and timeout, and the bias estimator's four settings.
+fn log() -> Vec<f32> {
+    let mut r = Random(7);
+    let mut noise = |scale: f32| ((r.next() % 2001) as f32 - 1000.0) / 1024.0 * scale;
+    let mut out = Vec::new();
+    for _ in 0..1000 {
+        out.extend([noise(4.0), noise(4.0), noise(4.0)]);
+        out.extend([noise(0.25), noise(0.25), 1.0 + noise(0.25)]);
+        out.extend([0.5 + noise(0.5), noise(0.25), -0.75 + noise(0.5)]);
+    }
+    let limit = f32::from_bits(0x3BF7_04DF);
+    out.extend([100.0, 0.5, 2000.0, limit, limit, 5.0]);
+    out.extend([100.0, 3.0, 3.0, 0.02]);
+    out
+}
+
+/// The vector that begins at column k of reading i.
+fn vector(log: &[f32], i: u32, k: usize) -> Vector {
+    let at = 9 * (i % 1000) as usize + k;
+    Vector::new(log[at], log[at + 1], log[at + 2])
+}
+
+fn update(log: &[f32], count: u32) -> u32 {
+    let mut ahrs = Ahrs::with_settings(AhrsSettings {
+        gyroscope_range: 2000.0,
+        acceleration_rejection: 10.0,
+        magnetic_rejection: 10.0,
+        rejection_timeout: 5.0,
+        ..Default::default()
+    });
+    for i in 0..count {
+        ahrs.update(vector(log, i, 0), vector(log, i, 3), vector(log, i, 6));
+    }
+    ahrs.quaternion().w.to_bits()
+}
+
+/// A quarter of the rates: still, so that the offset is followed.
+fn reading(log: &[f32], count: u32) -> u32 {
+    let mut bias = Bias::new();
+    (0..count).fold(0u32, |sum, i| sum.wrapping_add(bias.update(vector(log, i, 0) * 0.25).x.to_bits()))
+}
+
+fn root(log: &[f32], count: u32) -> u32 {
+    (0..count).fold(0u32, |sum, i| sum.wrapping_add(libm::sqrtf(vector(log, i, 3).z + 8.0).to_bits()))
+}
+
+/// A run of 1000 vectors.
+fn turn_run(source: &[f32], turned: &mut [f32], alignment: RemapAlignment) {
+    for (from, to) in source.chunks_exact(3).zip(turned.chunks_exact_mut(3)) {
+        let v = remap(Vector::new(from[0], from[1], from[2]), alignment);
+        to.copy_from_slice(&[v.x, v.y, v.z]);
+    }
+}
+
+fn turn(log: &[f32], count: u32) -> u32 {
+    let mut turned = [0f32; 3000];
+    (0..count).fold(0u32, |sum, i| {
+        turn_run(log, &mut turned, RemapAlignment::ALL[(i % 24) as usize]);
+        sum.wrapping_add(turned[(i % 3000) as usize].to_bits())
+    })
+}
+
+mod port {
+    #[link(name = "cost", kind = "static")]
+    unsafe extern "C" {
+        pub fn port_update(log: *const f32, len: usize, count: u32) -> u32;
+        pub fn port_reading(log: *const f32, len: usize, count: u32) -> u32;
+        pub fn port_root(log: *const f32, len: usize, count: u32) -> u32;
+        pub fn port_turn(log: *const f32, len: usize, count: u32) -> u32;
+    }
+}
+
+/// The port checks every index itself, and keeps nothing of the slice.
+fn port(f: unsafe extern "C" fn(*const f32, usize, u32) -> u32, log: &[f32], count: u32) -> u32 {
+    unsafe { f(log.as_ptr(), log.len(), count) }
+}
+
+fn main() {
+    let arguments: Vec<String> = std::env::args().collect();
+    let count: u32 = arguments[2].parse().expect("a count");
+    let log = std::hint::black_box(log());
+    let began = Instant::now();
+    let sum = match arguments[1].as_str() {
+        "rust-update" => update(&log, count),
+        "rust-reading" => reading(&log, count),
+        "rust-root" => root(&log, count),
+        "rust-turn" => turn(&log[..3000], count),
+        "port-update" => port(port::port_update, &log, count),
+        "port-reading" => port(port::port_reading, &log, count),
+        "port-root" => port(port::port_root, &log, count),
+        "port-turn" => port(port::port_turn, &log[..3000], count),
+        other => panic!("no bench {other}"),
+    };
+    println!("{} {} {:08X} {:.1}", arguments[1], count, sum, began.elapsed().as_nanos() as f64 / count as f64);
+}
