@@ -11,53 +11,52 @@ impl Machine {
         if code == 0x80 || code == 0x81 {
             return self.ahrs_settings(code, a);
         }
-        let mut next = self.ahrs.clone().expect("the script starts no filter");
-        let reads = |words: &[u32]| if all_finite(words) { gives(words) } else { refused(7) };
+        let next = self.ahrs.clone().expect("the script starts no filter");
+        if code < 0x87 { self.change(next, code, a) } else { self.read(&next, code) }
+    }
+
+    fn change(&mut self, mut next: Ahrs, code: u32, a: &[u32]) -> Answer {
         match code {
-            0x82 if !state::finite(a[0]) => refused(5),
-            0x82 if !(f(a[0]) > 0.0) => refused(6),
-            0x82 => {
-                next.set_sample_period(f(a[0]));
-                self.keep_ahrs(next, [])
-            }
-            0x83 => {
-                next.restart();
-                self.keep_ahrs(next, [])
-            }
-            0x84 => {
-                next.skip_startup();
-                self.keep_ahrs(next, [])
-            }
-            0x85 if !all_finite(&a[..4]) => refused(5),
-            0x85 => {
-                next.set_quaternion(q(a));
-                self.keep_ahrs(next, [])
-            }
-            0x86 if !all_finite(&a[..9]) => refused(5),
+            0x82 if !state::finite(a[0]) => return refused(5),
+            0x82 if !(f(a[0]) > 0.0) => return refused(6),
+            0x82 => next.set_sample_period(f(a[0])),
+            0x83 => next.restart(),
+            0x84 => next.skip_startup(),
+            0x85 if !all_finite(&a[..4]) => return refused(5),
+            0x85 => next.set_quaternion(q(a)),
+            0x86 if !all_finite(&a[..9]) => return refused(5),
             0x86 => {
                 next.update(v(a), v(&a[3..]), v(&a[6..]));
                 let orientation = of_q(next.quaternion());
-                self.keep_ahrs(next, orientation)
+                return self.keep_ahrs(next, orientation);
             }
-            0x87 => reads(&of_q(next.quaternion())),
-            0x88 => reads(&of_v(next.gravity())),
-            0x89 => reads(&of_v(next.linear_acceleration())),
-            0x8A => reads(&of_v(next.earth_acceleration())),
+            _ => panic!("the script has a call {code:02X}"),
+        }
+        self.keep_ahrs(next, [])
+    }
+
+    fn read(&self, ahrs: &Ahrs, code: u32) -> Answer {
+        let reads = |words: &[u32]| if all_finite(words) { gives(words) } else { refused(7) };
+        match code {
+            0x87 => reads(&of_q(ahrs.quaternion())),
+            0x88 => reads(&of_v(ahrs.gravity())),
+            0x89 => reads(&of_v(ahrs.linear_acceleration())),
+            0x8A => reads(&of_v(ahrs.earth_acceleration())),
             0x8B => {
-                let s = next.flags();
+                let s = ahrs.flags();
                 let flags = [s.startup, s.overrange_recovery, s.acceleration_recovery, s.magnetic_recovery];
                 gives(flags.map(u32::from))
             }
             0x8C => {
-                let s = next.internal_states();
+                let s = ahrs.internal_states();
                 reads(&[s.acceleration_recovery_trigger, s.magnetic_recovery_trigger].map(bits))
             }
             0x8D => {
-                let s = next.internal_states();
+                let s = ahrs.internal_states();
                 gives([s.accelerometer_ignored, s.magnetometer_ignored].map(u32::from))
             }
             0x8E => {
-                let s = next.settings();
+                let s = ahrs.settings();
                 let [w0, w2, w3, w6] = [s.sample_rate, s.gain, s.gyroscope_range, s.rejection_timeout].map(bits);
                 gives([w0, s.convention as u32, w2, w3, self.limits[0], self.limits[1], w6])
             }

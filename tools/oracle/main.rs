@@ -25,43 +25,45 @@ oracle calls                          the number and the name of every call
 MODE is math, mounting, bias, log, edge, fuzz, mix (of all these) or sample (some of each).
 ";
 
+/// Each record of the script on standard input.
+fn each(mut call: impl FnMut(&record::Record) -> io::Result<()>) -> io::Result<()> {
+    let mut input = BufReader::with_capacity(1 << 16, io::stdin().lock());
+    while let Some(r) = record::read(&mut input)? {
+        call(&r)?;
+    }
+    Ok(())
+}
+
+fn make(args: &[String], out: &mut impl Write) {
+    let number = |i: usize| args.get(i).map(|s| s.parse::<u64>().expect("a whole number"));
+    let mut script = generate::Script {
+        random: random::Random(number(2).expect("SEED")),
+        machine: machine::Machine::default(),
+        out: &mut |r| out.write_all(&record::to_bytes(r)).expect("written"),
+        quiet: number(4).unwrap_or(1),
+        left: number(3).expect("COUNT"),
+        stuck: 0,
+    };
+    script.make(&args[1]);
+}
+
 fn run() -> io::Result<()> {
     let args: Vec<String> = std::env::args().skip(1).collect();
-    let number = |i: usize| args.get(i).map(|s| s.parse::<u64>().expect("a whole number"));
-    let mut input = BufReader::with_capacity(1 << 16, io::stdin().lock());
     let mut out = BufWriter::with_capacity(1 << 16, io::stdout().lock());
     match args.first().map(String::as_str) {
         Some("run") => {
             let mut machine = machine::Machine::default();
-            while let Some(r) = record::read(&mut input)? {
-                writeln!(out, "{}", machine.line(&r))?;
-            }
+            each(|r| writeln!(out, "{}", machine.line(r)))?;
         }
-        Some("make") => {
-            let mut script = generate::Script {
-                random: random::Random(number(2).expect("SEED")),
-                machine: machine::Machine::default(),
-                out: &mut |r| out.write_all(&record::to_bytes(r)).expect("written"),
-                quiet: number(4).unwrap_or(1),
-                left: number(3).expect("COUNT"),
-                stuck: 0,
-            };
-            script.make(&args[1]);
-        }
+        Some("make") => make(&args, &mut out),
         Some("cover") => {
             let mut cover = cover::Cover::default();
-            while let Some(r) = record::read(&mut input)? {
-                cover.call(&r);
-            }
+            each(|r| Ok(cover.call(r)))?;
             cover.print(&mut out)?;
         }
-        Some("text") => {
-            while let Some(r) = record::read(&mut input)? {
-                writeln!(out, "{}", record::to_text(&r))?;
-            }
-        }
+        Some("text") => each(|r| writeln!(out, "{}", record::to_text(r)))?,
         Some("binary") => {
-            for line in input.lines() {
+            for line in io::stdin().lock().lines() {
                 if let Some(r) = record::from_text(&line?).map_err(io::Error::other)? {
                     out.write_all(&record::to_bytes(&r))?;
                 }
