@@ -123,7 +123,7 @@ fn recorded(bias: Bias, record: &[u8]) -> Said {
     lent::bytes(number, &buffer, n)
 }
 
-// Restores the record whose bytes stand from word 3 on. A length beyond the call's own record is refused as any other that is not 18.
+// Restores the record whose bytes stand from word 3 on. A length beyond the call's record is refused as any other that is not 18.
 fn restored(bias: Bias, record: &[u8]) -> Told {
     let n = length_at(record, 2);
     if record.len() != RECORD {

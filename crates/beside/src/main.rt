@@ -165,7 +165,7 @@ fn write(lines: &Lines, n: usize) -> bool {
     write_part(lines, n)
 }
 
-// Reads a block of records, and writes its lines. A block that is not full is the last, and so is one whose lines cannot be written.
+// Reads a block of records, and writes its lines. A block that is not full, or whose lines cannot be written, is the last.
 fn read_on(machine: Machine) -> Turn {
     let mut block = io::buffer();
     let n = io::read_full(libc::STDIN_FILENO, &mut block);
