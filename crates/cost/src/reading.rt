@@ -1,4 +1,5 @@
 // Bias readings.
+use super::READINGS;
 use super::row;
 use super::vector_at;
 use answer::Answer;
@@ -13,6 +14,9 @@ pub(crate) struct Learnt {
 
 // A quarter of the rates: still, so that the offset is followed.
 pub(crate) fn reading_step(learnt: Learnt, log: &[f32], i: u32) -> Learnt {
+    if log.len() < READINGS {
+        return learnt;
+    }
     let gyroscope = vector_at(log, row(i)).mul(0.25);
     let before = learnt.state;
     let reading = before.update(gyroscope);

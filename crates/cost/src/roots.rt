@@ -1,8 +1,12 @@
 // Square roots.
+use super::READINGS;
 use super::row;
 use super::vector_at;
 
 fn root_step(sum: u32, log: &[f32], i: u32) -> u32 {
+    if log.len() < READINGS {
+        return sum;
+    }
     let accelerometer = vector_at(log, row(i) + 3);
     std::num::wrapping_add_u32(sum, wire::bits_of(root::sqrtf(accelerometer.z + 8.0)))
 }

@@ -1,4 +1,5 @@
 // Updates of the filter.
+use super::READINGS;
 use super::row;
 use super::vector_at;
 use ahrs::Ahrs;
@@ -6,6 +7,9 @@ use ahrs::Settings;
 use ahrs::Started;
 
 pub(crate) fn update_step(state: Ahrs, log: &[f32], i: u32) -> Ahrs {
+    if log.len() < READINGS {
+        return state;
+    }
     let at = row(i);
     let gyroscope = vector_at(log, at);
     let accelerometer = vector_at(log, at + 3);

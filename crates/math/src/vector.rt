@@ -47,13 +47,13 @@ impl Vector {
         (self.x == 0.0) & (self.y == 0.0) & (self.z == 0.0)
     }
 
-    // Whether some component is larger in size than the limit.
+    // Whether some component is larger in size than the limit: it or its opposite is larger, which costs less than its size.
     pub fn exceeds(self, limit: f32) -> bool
         ensures { λ r. ⌜ r ≡ exceedsOf self limit ⌝ }
     {
-        (number::fabsf(self.x) > limit)
-            | (number::fabsf(self.y) > limit)
-            | (number::fabsf(self.z) > limit)
+        ((self.x > limit) | (-self.x > limit))
+            | ((self.y > limit) | (-self.y > limit))
+            | ((self.z > limit) | (-self.z > limit))
     }
 
     pub fn sum(self) -> f32
