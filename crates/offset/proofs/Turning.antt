@@ -1,13 +1,17 @@
 -- A vector that was checked is turned, and not refused; and turning keeps it finite. Assumes nothing.
 use Prim.Native.Nat.{ℕ, _<_}
 use native.Mathlib.Omega.{arith}
-use mathlib.Core.Path.{_≡_, ap, sym, _∙_}
+use mathlib.Core.Path.{_≡_, ap, sym, subst, _∙_}
 use mathlib.Core.Bool.{true, not}
+use mathlib.Core.List.{[], _∷_}
 use lib.Ieee.{Float}
+use denote.Enum.Declared.{tagOf}
+use types.Run.{OneOf, miss}
 use borrow.Author.Tests.{le-ltb}
 use Rattle.answer.specs.declared.Answer.{Answer}
 use Rattle.answer.specs.declared.Answer.the-variants.{Turned}
 use Rattle.answer.specs.Answers.{Answers, valuesOf}
+use Rattle.answer.proofs.Answer.{the-type}
 use Rattle.answer.proofs.Answering.{passes, all-pass}
 use Rattle.math.specs.declared.vector.Vector.{Vector}
 use Rattle.math.specs.Vectors.{vector, finiteVector, fromArrayOf}
@@ -28,6 +32,10 @@ pub is-turned : (v : Vector) (m : ℕ) {r : Answer} → m < 24 → finiteVector 
     → r ≡ turnedAnswer (turnOf m v)
 is-turned v m h f a =
     is-new _ _ (a .exact) (passes 4 _ (le-ltb 23 m (omega arith)) ∙ passes 5 _ (ap not f) ∙ all-pass)
+
+-- an answer that is a turned vector has no other case
+pub no-other-case : (v : Vector) {r : Answer} → r ≡ turnedAnswer v → OneOf (0 ∷ 2 ∷ 3 ∷ []) (tagOf the-type r) → ⊥
+no-other-case v e k = miss (0 ∷ 2 ∷ 3 ∷ []) 1 tt (subst (λ (a : Answer). OneOf (0 ∷ 2 ∷ 3 ∷ []) (tagOf the-type a)) e k)
 
 -- the axes of a turned vector make it
 pub from-axes : {w : Vector} {r : Answer} {x y z : Float} (v : Vector) → r ≡ turnedAnswer v → r ≡ Turned x y z → w ≡ vector x y z → w ≡ v

@@ -16,7 +16,7 @@ const NAMES: [u8; 144] = *b"\
     -Z+Y+X-Z-X+Y-Z-Y-X-Z+X-Y";
 
 // The k-th byte of a name. Only this reads the table, so that no other proof has it in its goals.
-fn byte_of(mounting: u8, k: usize) -> u8
+pub(crate) fn byte_of(mounting: u8, k: usize) -> u8
     requires { ⌜ (mounting < 24) × (k < 6) ⌝ }
     ensures { λ r. ⌜ r ≡ getD (nameOf mounting) k 0 ⌝ }
 {

@@ -1,6 +1,5 @@
 -- `offset::restoring::turned` meets its contract: no other answer comes than a turned vector. Assumes nothing.
-use Rattle.remap.proofs.Running.{no-other-case}
-use Rattle.offset.proofs.Turning.{is-turned, from-axes}
+use Rattle.offset.proofs.Turning.{is-turned, no-other-case, from-axes}
 use borrow.Author.Needs.{needs}
 use Rattle.offset.proofs.restoring.turned.Statement.{statement}
 use Rattle.offset.proofs.restoring.turned.Tie as tie
