@@ -13,4 +13,5 @@ mod Accepting
 mod Sound
 pub mod Running
 pub mod Lowering
+mod Walk
 mod Wrong

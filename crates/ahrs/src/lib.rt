@@ -6,11 +6,13 @@ ghost use mathlib.Core.Path.{_≡_};
 ghost use Rattle.ahrs.specs.Filter.{finiteState};
 
 pub mod change; // change.rt: start, restart, and the calls that set something
+pub mod lent; // lent.rt: update_lent
 pub mod read; // read.rt: calls that only read
 pub mod update; // update.rt: one update
 
 pub use change::Change;
 pub use change::Started;
+pub use lent::update_lent;
 pub use step::Config;
 pub use step::Rejection;
 pub use step::Settings;
