@@ -8,8 +8,8 @@ use lib.Ieee.Scale.{finite}
 use Rattle.number.specs.Float32 as float
 use Rattle.answer.specs.Refusals.{refusalOf}
 use Rattle.answer.proofs.Answering.{passed}
-use Rattle.math.specs.declared.vector.Vector.{Vector}
-use Rattle.math.specs.Vectors.{finiteVector}
+use Rattle.vector.specs.declared.Vector.{Vector}
+use Rattle.vector.specs.Vectors.{finiteVector}
 use Rattle.rejection.specs.Inside.{NotBelow}
 use Rattle.step.specs.declared.Settings.{Settings}
 use Rattle.ahrs.specs.declared.Ahrs.{Ahrs}

@@ -2,8 +2,8 @@
 use mathlib.Core.Bool.{Bool, true, false, cond}
 use lib.IntN.{ℤ}
 use lib.Ieee.{Float}
-use Rattle.math.specs.declared.vector.Vector.{Vector}
-use Rattle.math.specs.Vectors.{isZeroOf, crossOf, normalizeOf}
+use Rattle.vector.specs.declared.Vector.{Vector}
+use Rattle.vector.specs.Vectors.{isZeroOf, crossOf, normalizeOf}
 use Rattle.step.specs.declared.config.Config.{Config}
 use Rattle.step.specs.declared.Rejection.{Rejection}
 use Rattle.step.specs.declared.sensor.Feedback.{Feedback}

@@ -5,7 +5,7 @@ use lib.IntN.{ℤ}
 use lib.Ieee.{Float, ofBits}
 use lib.Ieee.Scale.{finite}
 use Rattle.math.specs.declared.quaternion.Quaternion.{Quaternion}
-use Rattle.math.specs.Vectors.{finiteVector, zeroVector}
+use Rattle.vector.specs.Vectors.{finiteVector, zeroVector}
 use Rattle.math.specs.Quaternions.{finiteQuaternion}
 use Rattle.step.specs.declared.Settings.{Settings}
 use Rattle.step.specs.declared.config.Config.{Config}

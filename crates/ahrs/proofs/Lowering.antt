@@ -3,7 +3,7 @@ use mathlib.Core.Bool.{Bool}
 use lib.IntN.{ℤ, pos}
 use lib.Ieee.{Float}
 use Rattle.answer.specs.Refusals.{refusalOf}
-use Rattle.math.specs.declared.vector.Vector.{Vector}
+use Rattle.vector.specs.declared.Vector.{Vector}
 use Rattle.rejection.specs.Inside.{NotBelow}
 use Rattle.rejection.proofs.Order.{not-below-through}
 use Rattle.rejection.proofs.Inside.{steps-inside}

@@ -6,8 +6,8 @@ use Rattle.answer.specs.declared.Answer.the-variants.{Refused}
 use Rattle.answer.specs.Refusals.{refusalOf, accepted}
 use Rattle.answer.specs.Answers.{numberOf, valuesOf}
 use Rattle.answer.proofs.Answering.{fails, passes, all-pass, refuses, accepts}
-use Rattle.math.specs.declared.vector.Vector.{Vector}
-use Rattle.math.specs.Vectors.{finiteVector}
+use Rattle.vector.specs.declared.Vector.{Vector}
+use Rattle.vector.specs.Vectors.{finiteVector}
 use Rattle.ahrs.specs.declared.Ahrs.{Ahrs}
 use Rattle.step.specs.Config.{knownConvention}
 use Rattle.ahrs.specs.Filter.{finiteState, steppedOf}

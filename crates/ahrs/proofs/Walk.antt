@@ -6,10 +6,10 @@ use mir.Val.{Val}
 use denote.Laws.{Is}
 use denote.Struct.Laws as LL
 use denote.Enum.Laws as EL
-use Rattle.math.specs.declared.vector.Vector.{Vector}
+use Rattle.vector.specs.declared.Vector.{Vector}
 use Rattle.answer.specs.declared.Answer.{Answer}
-use Rattle.math.proofs.vector.Vector as G
-use Rattle.math.proofs.vector.Vector.Laws as G′
+use Rattle.vector.proofs.Vector as G
+use Rattle.vector.proofs.Vector.Laws as G′
 use Rattle.answer.proofs.Answer as E
 use Rattle.answer.proofs.Answer.Laws as E′
 use Rattle.ahrs.specs.declared.Ahrs.{Ahrs}

@@ -8,8 +8,8 @@ use lib.Signed.{mag}
 use lib.Ieee.{Float, nan, fin, ofBits, ofInt, lt, add, sub, mul, div, neg, sum, round, units, odd}
 use Rattle.answer.specs.declared.Answer.the-variants.{Oriented, Refused}
 use Rattle.answer.specs.Refusals.{refusalOf}
-use Rattle.math.specs.declared.vector.Vector.{Vector}
-use Rattle.math.specs.Vectors.{vector, finiteVector, dotOf}
+use Rattle.vector.specs.declared.Vector.{Vector}
+use Rattle.vector.specs.Vectors.{vector, finiteVector, dotOf}
 use Rattle.math.specs.Quaternions.{quaternion, finiteQuaternion}
 use Rattle.step.specs.declared.Settings.{Settings}
 use Rattle.step.specs.declared.config.Config.{Config}

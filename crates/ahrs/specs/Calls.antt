@@ -10,9 +10,9 @@ use Rattle.answer.specs.declared.Answer.{Answer}
 use Rattle.answer.specs.declared.Answer.the-variants.{Oriented}
 use Rattle.answer.specs.Refusals.{Check, check, refusalOf, accepted, Answered, Changed}
 use Rattle.answer.specs.Answers.{Answers}
-use Rattle.math.specs.declared.vector.Vector.{Vector}
+use Rattle.vector.specs.declared.Vector.{Vector}
 use Rattle.math.specs.declared.quaternion.Quaternion.{Quaternion}
-use Rattle.math.specs.Vectors.{finiteVector}
+use Rattle.vector.specs.Vectors.{finiteVector}
 use Rattle.math.specs.Quaternions.{finiteQuaternion}
 use Rattle.step.specs.declared.Settings.{Settings}
 use Rattle.ahrs.specs.declared.Ahrs.{Ahrs}

@@ -1,7 +1,7 @@
 -- 01, "What we will read in the promises": two results that both satisfy a call's promise are the same.
 use mathlib.Core.Path.{_≡_}
 use lib.Ieee.{Float}
-use Rattle.math.specs.declared.vector.Vector.{Vector}
+use Rattle.vector.specs.declared.Vector.{Vector}
 use Rattle.math.specs.declared.quaternion.Quaternion.{Quaternion}
 use Rattle.step.specs.declared.Settings.{Settings}
 use Rattle.ahrs.specs.declared.Ahrs.{Ahrs}

@@ -1,7 +1,7 @@
 -- 01, "The refusal table": of every call here each number is given exactly when its row says.
 use lib.Ieee.{Float}
 use Rattle.answer.specs.Refusals.{Exactly}
-use Rattle.math.specs.declared.vector.Vector.{Vector}
+use Rattle.vector.specs.declared.Vector.{Vector}
 use Rattle.math.specs.declared.quaternion.Quaternion.{Quaternion}
 use Rattle.step.specs.declared.Settings.{Settings}
 use Rattle.ahrs.specs.declared.Ahrs.{Ahrs}

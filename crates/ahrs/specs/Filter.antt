@@ -4,9 +4,9 @@ use lib.IntN.{ℤ}
 use lib.Ieee.{Float}
 use lib.Ieee.Scale.{finite}
 use Rattle.number.specs.Float32.{zero, one}
-use Rattle.math.specs.declared.vector.Vector.{Vector}
+use Rattle.vector.specs.declared.Vector.{Vector}
 use Rattle.math.specs.declared.quaternion.Quaternion.{Quaternion}
-use Rattle.math.specs.Vectors.{zeroVector, finiteVector, addOf, mulOf}
+use Rattle.vector.specs.Vectors.{zeroVector, finiteVector, addOf, mulOf}
 use Rattle.math.specs.Quaternions as quaternion
 use Rattle.math.specs.Quaternions.{finiteQuaternion}
 use Rattle.step.specs.declared.Settings.{Settings}

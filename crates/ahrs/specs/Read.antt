@@ -4,9 +4,9 @@ use mathlib.Core.Bool.{Bool, cond, _&&_}
 use lib.Dec.{eqb}
 use lib.Ieee.Scale.{finite}
 use Rattle.number.specs.Float32.{_⊕_, _⊖_, _⊗_, one, two}
-use Rattle.math.specs.declared.vector.Vector.{Vector}
+use Rattle.vector.specs.declared.Vector.{Vector}
 use Rattle.math.specs.declared.quaternion.Quaternion.{Quaternion}
-use Rattle.math.specs.Vectors.{vector, dotOf, subOf, mulOf}
+use Rattle.vector.specs.Vectors.{vector, dotOf, subOf, mulOf}
 use Rattle.rejection.specs.Step.{recoveryOf}
 use Rattle.ahrs.specs.declared.Ahrs.{Ahrs}
 use Rattle.ahrs.specs.declared.read.Flags.{Flags}

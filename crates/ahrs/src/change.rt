@@ -1,11 +1,11 @@
 // A start, a restart, and the calls that set something.
 use super::Ahrs;
 use math::Quaternion;
-use math::Vector;
 use step::Config;
 use step::Rejection;
 use step::Settings;
 use step::config::INITIAL_STARTUP_GAIN;
+use vector::Vector;
 ghost use mathlib.Core.Path.{_≡_};
 ghost use Rattle.ahrs.specs.Filter.{freshOf, withThreshold, withSettings};
 ghost use Rattle.ahrs.specs.Calls.{Starts, Restarts, SkipsStartup, SetsSettings, SetsSamplePeriod, SetsQuaternion};

@@ -1,7 +1,7 @@
 // The filter lent by its owner for writing: one thin function over the update by value.
 use super::Ahrs;
 use answer::Answer;
-use math::Vector;
+use vector::Vector;
 ghost use Rattle.ahrs.specs.Calls.{Updates};
 
 pub fn update_lent(

@@ -1,7 +1,7 @@
 // The filter, by value: the Rust's ahrs.rs. A call takes the state and hands it back beside the answer.
 use answer::Answer;
 use math::Quaternion;
-use math::Vector;
+use vector::Vector;
 ghost use mathlib.Core.Path.{_≡_};
 ghost use Rattle.ahrs.specs.Filter.{finiteState};
 

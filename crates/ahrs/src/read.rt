@@ -1,9 +1,9 @@
 // Calls that only read the state: what they read, or a refusal's number.
 use super::Ahrs;
 use math::Quaternion;
-use math::Vector;
 use step::Settings;
 use step::direction::half_gravity;
+use vector::Vector;
 ghost use mathlib.Core.Path.{_≡_};
 ghost use Rattle.ahrs.specs.Read.{gravityOf, linearOf, turnedOf, withoutGravity, earthOf, finiteStates};
 ghost use Rattle.ahrs.specs.Calls.{SettingsReads, QuaternionReads, VectorReads, FlagsReads, StatesReads};

@@ -2,7 +2,6 @@
 use super::Ahrs;
 use super::Reading;
 use answer::Answer;
-use math::Vector;
 use step::Rejection;
 use step::config::INITIAL_STARTUP_GAIN;
 use step::direction::half_gravity;
@@ -10,6 +9,7 @@ use step::direction::half_west;
 use step::rate::half_angular_rate;
 use step::rate::integrate;
 use step::rate::ramp;
+use vector::Vector;
 ghost use mathlib.Core.Path.{_≡_};
 ghost use Rattle.ahrs.specs.Filter.{overrangeOf, judgedOf, steppedOf};
 ghost use Rattle.ahrs.specs.Calls.{Updates};

@@ -3,7 +3,7 @@ use mathlib.Core.Path.{refl}
 use lib.Count.{leadingZeros}
 use lib.Ieee.{ofBits, toBits, ofInt, round, units, odd}
 use Rattle.root.specs.Root.{floorRoot, nearestRootOf, significandOf, exponentOf, squaredOf, rootBitsOf, sqrtOf}
-use Rattle.math.specs.Mounting.{mountingOf}
+use Rattle.vector.specs.Mounting.{mountingOf}
 use Rattle.remap.specs.First.{first}
 use Rattle.remap.specs.Names.{nameOf, same}
 use Rattle.remap.specs.Composition.{composeOf, inverseOf}

@@ -5,7 +5,7 @@ use ahrs::Started;
 use ahrs::read::FlagsRead;
 use ahrs::read::StatesRead;
 use math::Quaternion;
-use math::Vector;
+use vector::Vector;
 
 // A filter, or nothing where its settings are refused.
 pub(crate) enum Beginning {

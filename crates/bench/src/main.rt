@@ -9,8 +9,8 @@ use bias::BiasSettings;
 use bias::Started;
 use filter::Beginning;
 use libc::STDOUT_FILENO;
-use math::Vector;
 use offset::RecordRead;
+use vector::Vector;
 
 // The bench table's record: offset (1, -2, 0.5) under mounting 11.
 const RECORD: [u8; 18] = *b"GOF\x01\x00\x0b\x00\x00\x80\x3f\x00\x00\x00\xc0\x00\x00\x00\x3f";

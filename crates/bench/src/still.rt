@@ -3,7 +3,7 @@ use bias::Bias;
 use bias::BiasSettings;
 use bias::Started;
 use bias::reads::ActiveRead;
-use math::Vector;
+use vector::Vector;
 ghost use Prim.Native.Nat.{_≤_};
 
 pub struct Still {

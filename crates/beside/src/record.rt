@@ -2,7 +2,7 @@
 // printed; the arguments follow.
 use math::Matrix;
 use math::Quaternion;
-use math::Vector;
+use vector::Vector;
 ghost use Prim.Native.Nat.{_<_};
 
 // The bytes of a record.

@@ -3,8 +3,8 @@ use super::words::Words;
 use answer::Answer;
 use math::Matrix;
 use math::Quaternion;
-use math::Vector;
 use remap::Mounting;
+use vector::Vector;
 
 pub(crate) struct Said {
     pub number: u8,

@@ -1,7 +1,7 @@
 // The words that a line says, in order. There are at most 64; what comes after them is left out.
 use math::Matrix;
 use math::Quaternion;
-use math::Vector;
+use vector::Vector;
 
 pub(crate) const MOST: usize = 64;
 

@@ -8,8 +8,8 @@ use lib.Ieee.Scale.{finite}
 use Rattle.answer.proofs.Tests.{both}
 use Rattle.answer.specs.Refusals.{refusalOf, accepted}
 use Rattle.answer.proofs.Answering.{passed}
-use Rattle.math.specs.declared.vector.Vector.{Vector}
-use Rattle.math.specs.Vectors.{finiteVector, zeroVector}
+use Rattle.vector.specs.declared.Vector.{Vector}
+use Rattle.vector.specs.Vectors.{finiteVector, zeroVector}
 use Rattle.bias.specs.declared.BiasSettings.{BiasSettings}
 use Rattle.bias.specs.declared.Bias.{Bias}
 use Rattle.bias.specs.Settings.{finiteSettings, aboveZero, coefficientOf}

@@ -10,8 +10,8 @@ use Rattle.answer.specs.declared.Answer.the-variants.{Refused}
 use Rattle.answer.specs.Refusals.{refusalOf, accepted}
 use Rattle.answer.specs.Answers.{numberOf, valuesOf}
 use Rattle.answer.proofs.Answering.{fails, passes, all-pass, refuses, accepts, keeps, changes}
-use Rattle.math.specs.declared.vector.Vector.{Vector}
-use Rattle.math.specs.Vectors.{finiteVector, exceedsOf, addOf, mulOf}
+use Rattle.vector.specs.declared.Vector.{Vector}
+use Rattle.vector.specs.Vectors.{finiteVector, exceedsOf, addOf, mulOf}
 use Rattle.bias.specs.declared.BiasSettings.{BiasSettings}
 use Rattle.bias.specs.declared.Bias.{Bias}
 use Rattle.bias.specs.declared.Started.the-variants.{Fresh, Refused as NotStarted}

@@ -8,11 +8,11 @@ use lib.Ieee.{Float}
 use lib.Ieee.Scale.{finite}
 use Rattle.answer.specs.Refusals.{check, refusalOf}
 use Rattle.answer.proofs.Answering.{fails}
-use Rattle.math.specs.declared.vector.Vector.{Vector}
-use Rattle.math.specs.Vectors.{finiteVector, exceedsOf, mulOf}
-use Rattle.math.specs.Mounting.{Mounting, mountingOf, turn}
-use Rattle.math.specs.Turned.{TurnedBy}
-use Rattle.math.proofs.Turning.{permutes, each-permutes, turned-turn, turned-zero, turned-add, turned-sub, turned-mul, finite-turned, exceeds-turned}
+use Rattle.vector.specs.declared.Vector.{Vector}
+use Rattle.vector.specs.Vectors.{finiteVector, exceedsOf, mulOf}
+use Rattle.vector.specs.Mounting.{Mounting, mountingOf, turn}
+use Rattle.vector.specs.Turned.{TurnedBy}
+use Rattle.vector.proofs.Turning.{permutes, each-permutes, turned-turn, turned-zero, turned-add, turned-sub, turned-mul, finite-turned, exceeds-turned}
 use Rattle.bias.specs.declared.BiasSettings.{BiasSettings}
 use Rattle.bias.specs.declared.Bias.{Bias}
 use Rattle.bias.specs.Settings.{finiteSettings, aboveZero, coefficientOf}

@@ -8,8 +8,8 @@ use lib.Ieee.{Float, nan, fin, ofBits, lt, add, sub, neg, sum, round, units, odd
 use Rattle.answer.specs.declared.Answer.the-variants.{Rates, Refused}
 use Rattle.answer.specs.Refusals.{refusalOf}
 use Rattle.number.specs.Same.{fabsfOf}
-use Rattle.math.specs.declared.vector.Vector.{Vector}
-use Rattle.math.specs.Vectors.{vector, finiteVector, exceedsOf}
+use Rattle.vector.specs.declared.Vector.{Vector}
+use Rattle.vector.specs.Vectors.{vector, finiteVector, exceedsOf}
 use Rattle.bias.specs.declared.BiasSettings.{BiasSettings}
 use Rattle.bias.specs.declared.Bias.{Bias}
 use Rattle.bias.specs.declared.Started.the-variants.{Fresh, Refused as NotStarted}

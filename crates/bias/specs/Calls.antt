@@ -9,8 +9,8 @@ use Rattle.answer.specs.declared.Answer.{Answer}
 use Rattle.answer.specs.declared.Answer.the-variants.{Rates, Refused}
 use Rattle.answer.specs.Refusals.{Check, check, refusalOf, accepted, Answered, Changed}
 use Rattle.answer.specs.Answers.{Answers}
-use Rattle.math.specs.declared.vector.Vector.{Vector}
-use Rattle.math.specs.Vectors.{finiteVector}
+use Rattle.vector.specs.declared.Vector.{Vector}
+use Rattle.vector.specs.Vectors.{finiteVector}
 use Rattle.bias.specs.declared.BiasSettings.{BiasSettings}
 use Rattle.bias.specs.declared.Bias.{Bias}
 use Rattle.bias.specs.declared.Reading.{Reading}

@@ -3,8 +3,8 @@ use Prim.Native.Nat.{ℕ, _+_}
 use mathlib.Core.Bool.{Bool, _&&_, cond}
 use lib.Dec.{ltb, leb}
 use lib.Ieee.Scale.{finite}
-use Rattle.math.specs.declared.vector.Vector.{Vector}
-use Rattle.math.specs.Vectors.{zeroVector, finiteVector, exceedsOf, addOf, subOf, mulOf}
+use Rattle.vector.specs.declared.Vector.{Vector}
+use Rattle.vector.specs.Vectors.{zeroVector, finiteVector, exceedsOf, addOf, subOf, mulOf}
 use Rattle.bias.specs.declared.BiasSettings.{BiasSettings}
 use Rattle.bias.specs.declared.Bias.{Bias}
 use Rattle.bias.specs.Settings.{coefficientOf, timeoutOf, finiteSettings}

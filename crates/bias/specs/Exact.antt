@@ -1,6 +1,6 @@
 -- 01, "The refusal table": of every call here each number is given exactly when its row says.
 use Rattle.answer.specs.Refusals.{Exactly}
-use Rattle.math.specs.declared.vector.Vector.{Vector}
+use Rattle.vector.specs.declared.Vector.{Vector}
 use Rattle.bias.specs.declared.BiasSettings.{BiasSettings}
 use Rattle.bias.specs.declared.Bias.{Bias}
 use Rattle.bias.specs.Calls.{startChecks, readingChecks, offsetChecks, stateChecks, settingsChecks}

@@ -5,7 +5,7 @@ use mathlib.Core.List.{List, [], _∷_}
 use Rattle.answer.specs.declared.Answer.{Answer}
 use Rattle.answer.specs.declared.Answer.the-variants.{Refused}
 use Rattle.answer.specs.Refusals.{refusalOf, accepted}
-use Rattle.math.specs.declared.vector.Vector.{Vector}
+use Rattle.vector.specs.declared.Vector.{Vector}
 use Rattle.bias.specs.declared.BiasSettings.{BiasSettings}
 use Rattle.bias.specs.declared.Bias.{Bias}
 use Rattle.bias.specs.declared.Reading.{Reading}

@@ -7,10 +7,10 @@ use mathlib.Core.List.{List, [], _∷_, map}
 use Prim.Native.Nat.{ℕ, _<_}
 use Rattle.answer.specs.declared.Answer.the-variants.{Refused}
 use Rattle.answer.specs.Refusals.{refusalOf}
-use Rattle.math.specs.declared.vector.Vector.{Vector}
-use Rattle.math.specs.Vectors.{finiteVector}
-use Rattle.math.specs.Mounting.{Mounting, mountingOf, turn}
-use Rattle.math.specs.Turned.{TurnedBy}
+use Rattle.vector.specs.declared.Vector.{Vector}
+use Rattle.vector.specs.Vectors.{finiteVector}
+use Rattle.vector.specs.Mounting.{Mounting, mountingOf, turn}
+use Rattle.vector.specs.Turned.{TurnedBy}
 use Rattle.bias.specs.declared.BiasSettings.{BiasSettings}
 use Rattle.bias.specs.declared.Bias.{Bias}
 use Rattle.bias.specs.Estimator.{freshOf, activeOf}

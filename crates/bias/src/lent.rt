@@ -1,7 +1,7 @@
 // The estimator lent by its owner for writing: one thin function over the reading by value.
 use super::Bias;
 use answer::Answer;
-use math::Vector;
+use vector::Vector;
 ghost use Rattle.bias.specs.Calls.{Reads};
 
 pub fn update_lent(bias: &mut Bias, gyroscope: Vector) -> Answer

@@ -1,6 +1,6 @@
 // The gyroscope's bias estimator, by value: the Rust's bias.rs. A call takes the state and hands it back beside the answer.
 use answer::Answer;
-use math::Vector;
+use vector::Vector;
 ghost use mathlib.Core.Path.{_≡_};
 ghost use Rattle.bias.specs.Settings.{finiteSettings, Derives};
 ghost use Rattle.bias.specs.Estimator.{finiteBias, advancedOf};

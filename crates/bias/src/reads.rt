@@ -1,7 +1,7 @@
 // Calls that only read the estimator's state: what they read, or 5 where the state is not finite.
 use super::Bias;
 use super::BiasSettings;
-use math::Vector;
+use vector::Vector;
 ghost use Rattle.bias.specs.Calls.{SettingsReads, OffsetReads, ActiveReads};
 
 pub enum SettingsRead {

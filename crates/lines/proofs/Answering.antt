@@ -12,7 +12,7 @@ use borrow.Author.Tests.{ltb-false}
 use Rattle.answer.proofs.Tests.{agrees, differs, neither}
 use Rattle.answer.specs.Refusals.{Check, check, refusalOf, accepted}
 use Rattle.answer.proofs.Answering.{fails, passes, all-pass}
-use Rattle.math.specs.Vectors.{vector}
+use Rattle.vector.specs.Vectors.{vector}
 use Rattle.remap.specs.declared.Mounting.the-variants.{Number, Refused}
 use Rattle.remap.specs.Given.{givenOf}
 use Rattle.remap.specs.Names.{namedBy, readOf}

@@ -1,5 +1,2 @@
-pub mod Vectors
 pub mod Matrices
 pub mod Quaternions
-pub mod Mounting
-pub mod Turned

@@ -5,9 +5,9 @@ use Prim.Native.Nat.{ℕ}
 use lib.ListN.{getD}
 use lib.Ieee.{Float, nan, eq}
 use Rattle.number.specs.Float32.{_⊕_, _⊗_}
-use Rattle.math.specs.declared.vector.Vector.{Vector}
+use Rattle.vector.specs.declared.Vector.{Vector}
 use Rattle.math.specs.declared.matrix.Matrix.{Matrix}
-use Rattle.math.specs.Vectors.{vector}
+use Rattle.vector.specs.Vectors.{vector}
 
 abbrev pub eqOf : Matrix → Matrix → Bool
 eqOf m n =

@@ -6,7 +6,7 @@ use lib.Ieee.{Float, nan, eq, neg}
 use lib.Ieee.Scale.{finite}
 use Rattle.number.specs.Float32.{_⊕_, _⊖_, _⊗_, _⊘_, one, two}
 use Rattle.root.specs.Root.{sqrtOf}
-use Rattle.math.specs.declared.vector.Vector.{Vector}
+use Rattle.vector.specs.declared.Vector.{Vector}
 use Rattle.math.specs.declared.matrix.Matrix.{Matrix}
 use Rattle.math.specs.declared.quaternion.Quaternion.{Quaternion}
 use Rattle.math.specs.Matrices.{mulVectorOf}

@@ -1,5 +1,5 @@
 // A 3 by 3 matrix of f32, rows first: the Rust's math/matrix.rs. A field's name is its row and then its column.
-use super::vector::Vector;
+use vector::Vector;
 ghost use mathlib.Core.Path.{_≡_};
 ghost use Rattle.math.specs.Matrices.{eqOf, fromRowsOf, toRowsOf, transposeOf, mulOf, mulVectorOf};
 

@@ -1,6 +1,6 @@
 // A quaternion of f32, the scalar part first: the Rust's math/quaternion.rs. Its length is whatever it is: nothing makes it 1.
 use super::matrix::Matrix;
-use super::vector::Vector;
+use vector::Vector;
 ghost use mathlib.Core.Path.{_≡_};
 ghost use Rattle.math.specs.Quaternions.{quaternion, finiteQuaternion, eqOf, sumOf, hadamardOf, vectorProductOf, conjugateOf, normSquaredOf, normOf, normalizeOf, toMatrixOf, rotateOf, addOf, mulOf, productOf, fromArrayOf, toArrayOf};
 

@@ -10,7 +10,7 @@ use borrow.Author.Tests.{eqb-true, ltb-false, le-ltb}
 use Rattle.answer.proofs.Tests.{both, neither}
 use Rattle.answer.specs.Refusals.{refusalOf, accepted}
 use Rattle.answer.proofs.Answering.{passed, unfailed}
-use Rattle.math.specs.Vectors.{finiteVector}
+use Rattle.vector.specs.Vectors.{finiteVector}
 use Rattle.wire.specs.Wire.{u16At}
 use Rattle.offset.specs.Record.{hasMark, mountingAt, vectorAt, recordChecks}
 use Rattle.offset.proofs.Checking.{unrefused}

@@ -6,8 +6,8 @@ use mathlib.Core.List.{List, [], _∷_}
 use lib.IntN.{pos, negsuc}
 use lib.Ieee.{Float, fin, ofBits, toBits}
 use Rattle.answer.specs.Refusals.{refusalOf}
-use Rattle.math.specs.Vectors.{vector, finiteVector}
-use Rattle.math.specs.Mounting.{mountingOf}
+use Rattle.vector.specs.Vectors.{vector, finiteVector}
+use Rattle.vector.specs.Mounting.{mountingOf}
 use Rattle.remap.specs.First.{first}
 use Rattle.remap.specs.Names.{nameOf, same}
 use Rattle.remap.specs.Composition.{composeOf, inverseOf}

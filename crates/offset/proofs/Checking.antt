@@ -8,7 +8,7 @@ use lib.ListN.{length}
 use Rattle.answer.proofs.Tests.{agrees, differs, two}
 use Rattle.answer.specs.Refusals.{check, refusalOf}
 use Rattle.answer.proofs.Answering.{fails, passes, all-pass}
-use Rattle.math.specs.Vectors.{finiteVector}
+use Rattle.vector.specs.Vectors.{finiteVector}
 use Rattle.wire.specs.Wire.{u16At}
 use Rattle.offset.specs.Record.{hasMark, mountingAt, vectorAt, recordChecks}
 

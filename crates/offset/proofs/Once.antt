@@ -8,7 +8,7 @@ use Rattle.answer.proofs.Tests.{both}
 use Rattle.answer.specs.Refusals.{refusalOf, accepted}
 use Rattle.bias.specs.declared.Bias.{Bias}
 use Rattle.bias.specs.Estimator.{finiteBias}
-use Rattle.math.specs.Vectors.{finiteVector}
+use Rattle.vector.specs.Vectors.{finiteVector}
 use Rattle.bias.specs.Settings.{finiteSettings}
 use Rattle.remap.proofs.Composing.{undone}
 use Rattle.offset.specs.Record.{mountingAt, vectorAt}

@@ -11,7 +11,7 @@ use lib.Ieee.Bits.{ofBits-toBits}
 use borrow.Author.Tests.{ltb-false}
 use Rattle.answer.specs.Refusals.{refusalOf}
 use Rattle.answer.proofs.Answering.{passed, unfailed}
-use Rattle.math.specs.Vectors.{finiteVector}
+use Rattle.vector.specs.Vectors.{finiteVector}
 use Rattle.wire.proofs.Laws.{digits}
 use Rattle.offset.specs.declared.Offset.{Offset}
 use Rattle.offset.specs.declared.RecordRead.the-variants.{Read}

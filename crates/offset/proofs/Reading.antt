@@ -6,8 +6,8 @@ use mathlib.Core.List.{List}
 use lib.Ieee.{Float}
 use Rattle.answer.specs.Refusals.{refusalOf}
 use Rattle.answer.proofs.Answering.{refuses, accepts}
-use Rattle.math.specs.declared.vector.Vector.{Vector}
-use Rattle.math.specs.Vectors.{vector, finiteVector}
+use Rattle.vector.specs.declared.Vector.{Vector}
+use Rattle.vector.specs.Vectors.{vector, finiteVector}
 use Rattle.wire.specs.Wire.{bitsAt, finiteBits, floatOf}
 use Rattle.wire.proofs.Laws.{finite-ofBits}
 use Rattle.offset.specs.declared.Offset.{Offset}

@@ -5,8 +5,8 @@ use mathlib.Core.Bool.{Bool, true}
 use mathlib.Core.List.{List, []}
 use Rattle.answer.specs.Refusals.{refusalOf, accepted}
 use Rattle.answer.proofs.Answering.{passes, all-pass, keeps}
-use Rattle.math.specs.declared.vector.Vector.{Vector}
-use Rattle.math.specs.Vectors.{finiteVector}
+use Rattle.vector.specs.declared.Vector.{Vector}
+use Rattle.vector.specs.Vectors.{finiteVector}
 use Rattle.bias.specs.declared.Bias.{Bias}
 use Rattle.bias.specs.declared.Change.{Change}
 use Rattle.bias.specs.Estimator.{finiteBias}

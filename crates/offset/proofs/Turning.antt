@@ -13,11 +13,11 @@ use Rattle.answer.specs.declared.Answer.the-variants.{Turned}
 use Rattle.answer.specs.Answers.{Answers, valuesOf}
 use Rattle.answer.proofs.Answer.{the-type}
 use Rattle.answer.proofs.Answering.{passes, all-pass}
-use Rattle.math.specs.declared.vector.Vector.{Vector}
-use Rattle.math.specs.Vectors.{vector, finiteVector, fromArrayOf}
-use Rattle.math.specs.Mounting.{mountingOf, turnOf}
-use Rattle.math.specs.Turned.{turnChecks, turnedAnswer}
-use Rattle.math.proofs.Turning.{each-permutes, turned-turn, finite-turned}
+use Rattle.vector.specs.declared.Vector.{Vector}
+use Rattle.vector.specs.Vectors.{vector, finiteVector, fromArrayOf}
+use Rattle.vector.specs.Mounting.{mountingOf, turnOf}
+use Rattle.vector.specs.Turned.{turnChecks, turnedAnswer}
+use Rattle.vector.proofs.Turning.{each-permutes, turned-turn, finite-turned}
 use Rattle.remap.specs.declared.Mounting.{Mounting}
 use Rattle.remap.specs.declared.Mounting.the-variants.{Number, Refused}
 use Rattle.remap.specs.Composition.{inverseOf, inverseChecks}

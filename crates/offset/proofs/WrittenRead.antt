@@ -14,7 +14,7 @@ use borrow.Author.Tests.{eqb-true, le-ltb}
 use Rattle.answer.proofs.Tests.{agrees, all-three}
 use Rattle.answer.specs.Refusals.{refusalOf}
 use Rattle.answer.proofs.Answering.{passes, all-pass}
-use Rattle.math.specs.Vectors.{finiteVector}
+use Rattle.vector.specs.Vectors.{finiteVector}
 use Rattle.wire.specs.Wire.{bitsAt}
 use Rattle.wire.proofs.Laws.{finite-no-nan, spell, spelled}
 use Rattle.offset.specs.declared.Offset.{Offset}

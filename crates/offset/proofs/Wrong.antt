@@ -8,8 +8,8 @@ use lib.IntN.{pos}
 use lib.ListN.{getD}
 use lib.Ieee.{Float, nan, inf, fin, ofBits, toBits}
 use Rattle.answer.specs.Refusals.{refusalOf}
-use Rattle.math.specs.Vectors.{vector, finiteVector}
-use Rattle.math.specs.Mounting.{mountingOf}
+use Rattle.vector.specs.Vectors.{vector, finiteVector}
+use Rattle.vector.specs.Mounting.{mountingOf}
 use Rattle.remap.specs.First.{first}
 use Rattle.remap.specs.Names.{nameOf, same}
 use Rattle.remap.specs.Composition.{composeOf, inverseOf}

@@ -5,8 +5,8 @@ use mathlib.Core.List.{List, [], _∷_, _++_}
 use lib.Dec.{ltb, eqb}
 use lib.ListN.{length, getD}
 use Rattle.answer.specs.Refusals.{Check, check, Answered, Changed}
-use Rattle.math.specs.declared.vector.Vector.{Vector}
-use Rattle.math.specs.Vectors.{vector, finiteVector}
+use Rattle.vector.specs.declared.Vector.{Vector}
+use Rattle.vector.specs.Vectors.{vector, finiteVector}
 use Rattle.wire.specs.Wire.{u16At, bitsAt, floatOf, bitsOf}
 use Rattle.offset.specs.declared.Offset.{Offset}
 use Rattle.offset.specs.declared.RecordRead.{RecordRead}

@@ -3,8 +3,8 @@ use Prim.Native.Nat.{ℕ}
 use mathlib.Core.Path.{_≡_}
 use mathlib.Core.List.{List}
 use Rattle.answer.specs.Refusals.{Check, Changed}
-use Rattle.math.specs.declared.vector.Vector.{Vector}
-use Rattle.math.specs.Mounting.{turnOf}
+use Rattle.vector.specs.declared.Vector.{Vector}
+use Rattle.vector.specs.Mounting.{turnOf}
 use Rattle.remap.specs.Composition.{inverseOf}
 use Rattle.bias.specs.declared.Bias.{Bias}
 use Rattle.bias.specs.declared.Change.{Change}

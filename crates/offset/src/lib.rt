@@ -1,12 +1,12 @@
 // The 18-byte record of a gyroscope offset: written, read, and restored into the bias estimator under any mounting.
 pub mod restoring; // restoring.rt: restore
 
-use math::Vector;
 pub use restoring::restore;
+use vector::Vector;
 ghost use mathlib.Core.Path.{_≡_};
 ghost use lib.ListN.{length};
 ghost use Rattle.answer.specs.Refusals.{refusalOf};
-ghost use Rattle.math.specs.Vectors.{finiteVector};
+ghost use Rattle.vector.specs.Vectors.{finiteVector};
 ghost use Rattle.offset.specs.Record.{hasMark, vectorAt, offsetAt, recordOf, recordChecks, Reads, Writes};
 
 // An offset, in the frame of a mounting.

@@ -4,13 +4,13 @@ use super::refusal;
 use answer::Answer;
 use bias::Bias;
 use bias::Change;
-use math::Vector;
 use remap::Mounting;
+use vector::Vector;
 ghost use mathlib.Core.Path.{_≡_};
 ghost use mathlib.Core.Bool.{true};
 ghost use Prim.Native.Nat.{_<_};
-ghost use Rattle.math.specs.Mounting.{turnOf};
-ghost use Rattle.math.specs.Vectors.{finiteVector};
+ghost use Rattle.vector.specs.Mounting.{turnOf};
+ghost use Rattle.vector.specs.Vectors.{finiteVector};
 ghost use Rattle.offset.specs.Restore.{reframedOf, Restores};
 
 // A vector turned. No other answer comes, since number and floats were checked before.

@@ -9,8 +9,8 @@ use lib.Ieee.{Float, neg}
 use lib.Ieee.Fits.{and-l, and-r}
 use lib.ListN.{getD}
 use Rattle.number.proofs.Signs.{neg-neg}
-use Rattle.math.specs.declared.vector.Vector.{Vector}
-use Rattle.math.specs.Mounting.{Signed, Px, Py, Pz, Nx, Ny, Nz, Mounting, mountingOf, read, turn, turnOf}
+use Rattle.vector.specs.declared.Vector.{Vector}
+use Rattle.vector.specs.Mounting.{Signed, Px, Py, Pz, Nx, Ny, Nz, Mounting, mountingOf, read, turn, turnOf}
 use Rattle.remap.specs.First.{first}
 use Rattle.remap.specs.Names.{sign, letter, spell, nameOf, same}
 use Rattle.remap.specs.Composition.{opposite, afterwards, composeOf, inverseOf, Composes, Undone}

@@ -10,7 +10,7 @@ use lib.ListN.{length, getD, take, drop, set}
 use borrow.Author.Tests.{ltb-false, le-ltb, lt-ltb}
 use Rattle.answer.proofs.Tests.{agrees}
 use Rattle.answer.specs.Refusals.{check, refusalOf, accepted}
-use Rattle.math.specs.Mounting.{mountingOf}
+use Rattle.vector.specs.Mounting.{mountingOf}
 use Rattle.remap.specs.declared.Mounting.the-variants.{Number, Refused}
 use Rattle.remap.specs.First.{first}
 use Rattle.remap.specs.Given.{Gives}

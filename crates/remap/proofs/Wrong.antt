@@ -8,7 +8,7 @@ use lib.IntN.{pos}
 use lib.ListN.{getD}
 use lib.Ieee.{Float, inf, fin}
 use Rattle.answer.specs.Refusals.{refusalOf}
-use Rattle.math.specs.Mounting.{mountingOf}
+use Rattle.vector.specs.Mounting.{mountingOf}
 use Rattle.remap.specs.declared.Mounting.the-variants.{Number, Refused}
 use Rattle.remap.specs.First.{first}
 use Rattle.remap.specs.Given.{Gives}

@@ -5,8 +5,8 @@ use mathlib.Core.Bool.{_||_}
 use mathlib.Core.List.{List, [], _∷_}
 use lib.Dec.{ltb, eqb}
 use Rattle.answer.specs.Refusals.{Check, check}
-use Rattle.math.specs.declared.vector.Vector.{Vector}
-use Rattle.math.specs.Mounting.{Signed, Px, Py, Pz, Nx, Ny, Nz, Mounting, mounting, mountingOf, read, turnOf}
+use Rattle.vector.specs.declared.Vector.{Vector}
+use Rattle.vector.specs.Mounting.{Signed, Px, Py, Pz, Nx, Ny, Nz, Mounting, mounting, mountingOf, read, turnOf}
 use Rattle.remap.specs.First.{firstMounting}
 use Rattle.remap.specs.Names.{spell, namedBy}
 

@@ -6,7 +6,7 @@ use mathlib.Core.List.{List, [], _∷_}
 use lib.Dec.{ltb, eqb}
 use lib.ListN.{length}
 use Rattle.answer.specs.Refusals.{Check, check, Changed}
-use Rattle.math.specs.Mounting.{Signed, Mounting, mountingOf, read}
+use Rattle.vector.specs.Mounting.{Signed, Mounting, mountingOf, read}
 use Rattle.remap.specs.declared.Mounting.{Mounting as Reading}
 use Rattle.remap.specs.declared.Mounting.the-variants.{Number}
 use Rattle.remap.specs.First.{firstMounting}

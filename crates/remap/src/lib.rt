@@ -4,15 +4,15 @@ pub mod runs; // runs.rt: turn_run
 pub mod table; // table.rt: compose, inverse
 
 use answer::Answer;
-use math::Vector;
 pub use names::read_name;
 pub use names::write_name;
 pub use runs::turn_run;
 pub use table::compose;
 pub use table::inverse;
+use vector::Vector;
 ghost use Rattle.answer.specs.Answers.{Answers};
-ghost use Rattle.math.specs.Mounting.{turnOf};
-ghost use Rattle.math.specs.Turned.{turnChecks, turnedAnswer};
+ghost use Rattle.vector.specs.Mounting.{turnOf};
+ghost use Rattle.vector.specs.Turned.{turnChecks, turnedAnswer};
 
 // A mounting's number, or a refusal's.
 pub enum Mounting {

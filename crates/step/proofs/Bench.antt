@@ -2,8 +2,8 @@
 use mathlib.Core.Path.{_≡_}
 use mathlib.Core.Bool.{true, false}
 use lib.Ieee.{Float, le}
-use Rattle.math.specs.declared.vector.Vector.{Vector}
-use Rattle.math.specs.Vectors.{normSquaredOf}
+use Rattle.vector.specs.declared.Vector.{Vector}
+use Rattle.vector.specs.Vectors.{normSquaredOf}
 use Rattle.number.specs.Whole.{saturatedOf, clampOf}
 use Rattle.rejection.specs.Step.{movedOf, stepOf}
 use Rattle.step.specs.Sensor.{resetOf, rejectedOf}

@@ -6,8 +6,8 @@ use mir.Syntax.{w32}
 use mir.Val.{toZ, ofZ}
 use lib.IntN.{ℤ, pos, negsuc}
 use lib.Ieee.{Float, le}
-use Rattle.math.specs.declared.vector.Vector.{Vector}
-use Rattle.math.specs.Vectors.{zeroVector, normSquaredOf}
+use Rattle.vector.specs.declared.Vector.{Vector}
+use Rattle.vector.specs.Vectors.{zeroVector, normSquaredOf}
 use Rattle.rejection.specs.declared.Counts.{Counts}
 use Rattle.rejection.specs.declared.Stepped.{Stepped}
 use Rattle.rejection.specs.Step.{stepOf}

@@ -6,8 +6,8 @@ use mathlib.Core.Bool.{Bool, true, false, cond}
 use lib.IntN.{pos, negsuc}
 use lib.Ieee.{Float, nan, inf, fin, ofBits, ofInt, lt, ne, add, sub, mul, div, neg, sum, round, units, odd}
 use Rattle.number.specs.Same.{fabsfOf}
-use Rattle.math.specs.declared.vector.Vector.{Vector}
-use Rattle.math.specs.Vectors.{vector, exceedsOf}
+use Rattle.vector.specs.declared.Vector.{Vector}
+use Rattle.vector.specs.Vectors.{vector, exceedsOf}
 use Rattle.math.specs.Quaternions.{quaternion}
 use Rattle.step.specs.declared.Settings.{Settings}
 use Rattle.step.specs.declared.config.Config.{Config}

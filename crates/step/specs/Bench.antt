@@ -3,8 +3,8 @@ use mathlib.Core.Path.{_≡_}
 use mathlib.Core.Bool.{true, false}
 use lib.IntN.{ℤ, pos}
 use lib.Ieee.{Float, le}
-use Rattle.math.specs.declared.vector.Vector.{Vector}
-use Rattle.math.specs.Vectors.{zeroVector, normSquaredOf}
+use Rattle.vector.specs.declared.Vector.{Vector}
+use Rattle.vector.specs.Vectors.{zeroVector, normSquaredOf}
 use Rattle.step.specs.declared.Rejection.{Rejection}
 use Rattle.step.specs.declared.sensor.Feedback.{Feedback}
 use Rattle.step.specs.Sensor.{resetOf, rejectedOf}

@@ -4,8 +4,8 @@ use lib.Dec.{leb}
 use lib.Ieee.{Float, binary32, ofBits, lt, ne, toSigned}
 use lib.Ieee.Scale.{finite}
 use Rattle.number.specs.Float32.{_⊖_, _⊗_, _⊘_, zero, one}
-use Rattle.math.specs.declared.vector.Vector.{Vector}
-use Rattle.math.specs.Vectors.{exceedsOf}
+use Rattle.vector.specs.declared.Vector.{Vector}
+use Rattle.vector.specs.Vectors.{exceedsOf}
 use Rattle.step.specs.declared.Settings.{Settings}
 use Rattle.step.specs.declared.config.Config.{Config}
 

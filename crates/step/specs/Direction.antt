@@ -4,9 +4,9 @@ use mathlib.Core.Bool.{cond}
 use lib.Dec.{eqb}
 use lib.Ieee.{Float, binary32, ofBits, neg}
 use Rattle.number.specs.Float32.{_⊕_, _⊖_, _⊗_}
-use Rattle.math.specs.declared.vector.Vector.{Vector}
+use Rattle.vector.specs.declared.Vector.{Vector}
 use Rattle.math.specs.declared.quaternion.Quaternion.{Quaternion}
-use Rattle.math.specs.Vectors.{vector}
+use Rattle.vector.specs.Vectors.{vector}
 
 abbrev pub half : Float
 half = ofBits binary32 0x3f00_0000

@@ -2,9 +2,9 @@
 use mathlib.Core.Bool.{Bool, true, false, cond}
 use lib.Ieee.{Float, binary32, ofBits, lt}
 use Rattle.number.specs.Float32.{_⊖_, _⊗_}
-use Rattle.math.specs.declared.vector.Vector.{Vector}
+use Rattle.vector.specs.declared.Vector.{Vector}
 use Rattle.math.specs.declared.quaternion.Quaternion.{Quaternion}
-use Rattle.math.specs.Vectors.{addOf, mulOf}
+use Rattle.vector.specs.Vectors.{addOf, mulOf}
 use Rattle.math.specs.Quaternions as quaternion
 use Rattle.math.specs.Quaternions.{vectorProductOf}
 use Rattle.step.specs.declared.config.Config.{Config}

@@ -5,8 +5,8 @@ use lib.IntN.{ℤ, pos, negsuc}
 use lib.Ieee.{Float, binary32, le, lt, ofInt}
 use Rattle.number.specs.Float32 as float
 use Rattle.number.specs.Float32.{_⊘_}
-use Rattle.math.specs.declared.vector.Vector.{Vector}
-use Rattle.math.specs.Vectors.{zeroVector, finiteVector, isZeroOf, normSquaredOf, dotOf, crossOf, normalizeOf}
+use Rattle.vector.specs.declared.Vector.{Vector}
+use Rattle.vector.specs.Vectors.{zeroVector, finiteVector, isZeroOf, normSquaredOf, dotOf, crossOf, normalizeOf}
 use Rattle.rejection.specs.declared.Counts.{Counts}
 use Rattle.rejection.specs.declared.Stepped.{Stepped}
 use Rattle.rejection.specs.Step.{stepOf}

@@ -1,6 +1,6 @@
 // What is derived from the settings, and which settings are sound.
 use super::Settings;
-use math::Vector;
+use vector::Vector;
 ghost use mathlib.Core.Path.{_≡_};
 ghost use Rattle.step.specs.Config.{knownConvention, finiteSettings, soundSettings, limitOf, derivedOf, finiteConfig, firesOf};
 

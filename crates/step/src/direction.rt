@@ -1,6 +1,6 @@
 // Where gravity and west lie in the sensor's frame, half as long, by the convention.
 use math::Quaternion;
-use math::Vector;
+use vector::Vector;
 ghost use mathlib.Core.Path.{_≡_};
 ghost use Rattle.step.specs.Direction.{halfGravityOf, halfWestOf};
 

@@ -1,5 +1,5 @@
 // The rules of one update, each over the values that it reads: no state, and nothing refused.
-use math::Vector;
+use vector::Vector;
 
 pub mod config; // config.rt: what is derived from the settings
 pub mod direction; // direction.rt: where gravity and west lie

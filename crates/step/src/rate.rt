@@ -1,7 +1,7 @@
 // The gain in use, the rate of turning, and the turn.
 use super::Config;
 use math::Quaternion;
-use math::Vector;
+use vector::Vector;
 ghost use mathlib.Core.Path.{_≡_};
 ghost use Rattle.step.specs.Rate.{rampedOf, rateOf, integratedOf};
 

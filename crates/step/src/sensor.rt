@@ -1,8 +1,8 @@
 // One sensor's rejection step; its counts are the crate `rejection`'s.
 use super::Config;
 use super::Rejection;
-use math::Vector;
 use rejection::Counts;
+use vector::Vector;
 ghost use mathlib.Core.Path.{_≡_};
 ghost use Rattle.step.specs.Sensor.{resetOf, residualOf, skippedOf, rejectedOf, inclinationOf, headingOf, countsOf, ratioOf, finiteRejection};
 

@@ -38,9 +38,9 @@ use denote.Triple.Spec.{Meets, tripleOf}
 use denote.Triple.Table.{entered, cited}
 use denote.Triple.Walked.{says, Stays, stay-ref, stay-none, walkOf, AllGo, goes-none, goes-ref, Walks, ends-at, walked, walk-meets}
 use denote.Exit.{yes}
-use Rattle.math.specs.declared.vector.Vector.{Vector}
-use Rattle.math.proofs.vector.Vector as G
-use Rattle.math.proofs.vector.Vector.Laws as G′
+use Rattle.vector.specs.declared.Vector.{Vector}
+use Rattle.vector.proofs.Vector as G
+use Rattle.vector.proofs.Vector.Laws as G′
 use Rattle.answer.proofs.Answer as E
 use Rattle.answer.proofs.Answer.Laws as E′
 use Rattle.ahrs.specs.Calls.{Updates}

@@ -1,7 +1,7 @@
 -- `offset::restoring::reframed` meets its contract: undone, and then turned. Assumes nothing.
 use native.Mathlib.Omega.{arith}
 use mathlib.Core.Path.{ap, _∙_}
-use Rattle.math.specs.Vectors.{finiteVector}
+use Rattle.vector.specs.Vectors.{finiteVector}
 use Rattle.offset.proofs.Turning.{turn-finite, no-refusal, inverse-number, inverse-below, reframes}
 use borrow.Author.Needs.{needs}
 use Rattle.offset.proofs.restoring.reframed.Statement.{statement}

@@ -1,6 +1,6 @@
 -- `remap::names::byte_of` meets its contract: the constant is the table of the names' bytes. Assumes nothing.
 use borrow.Author.Needs.{needs}
-use Rattle.math.specs.Mounting.{mountingOf}
+use Rattle.vector.specs.Mounting.{mountingOf}
 use Rattle.remap.specs.Names.{nameOf}
 use Rattle.remap.proofs.Naming.{byte-at}
 use Rattle.remap.proofs.names.byte_of.Statement.{statement}

@@ -4,7 +4,7 @@ use mathlib.Core.Path.{_∙_}
 use lib.Dec.{ltb}
 use borrow.Author.Tests.{ltb-false}
 use Rattle.answer.proofs.Tests.{neither}
-use Rattle.math.specs.Mounting.{mountingOf}
+use Rattle.vector.specs.Mounting.{mountingOf}
 use Rattle.remap.specs.First.{first}
 use Rattle.remap.specs.Names.{nameOf, same}
 use Rattle.remap.specs.Composition.{composeOf}

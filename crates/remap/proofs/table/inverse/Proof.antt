@@ -2,7 +2,7 @@
 use native.Mathlib.Omega.{arith}
 use mathlib.Core.Path.{_∙_}
 use borrow.Author.Tests.{lt-ltb, le-ltb}
-use Rattle.math.specs.Mounting.{mountingOf}
+use Rattle.vector.specs.Mounting.{mountingOf}
 use Rattle.remap.specs.First.{first}
 use Rattle.remap.specs.Names.{nameOf, same}
 use Rattle.remap.specs.Composition.{composeOf, inverseOf}

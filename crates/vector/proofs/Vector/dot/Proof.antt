@@ -1,0 +1,11 @@
+-- `vector::Vector::dot` meets its contract: the sum of the products, by what `hadamard` and `sum` ensure. Assumes nothing.
+use Rattle.vector.specs.Vectors.{dotOf}
+use Rattle.vector.proofs.Vector.dot.Statement.{statement}
+use Rattle.vector.proofs.Vector.dot.Tie as tie
+
+returns : tie.Need-returns
+unfolding dotOf
+returns c = cc
+
+pub dot-spec : {M : Type 1} → statement M
+dot-spec = tie.close (tie.spec (λ c κs. tt) (λ c κs. tt) returns)
