@@ -1,6 +1,7 @@
 pub mod Signs
 pub mod Same
 pub mod Size
+pub mod Finite
 pub mod Unsigned
 pub mod Signed
 pub mod Range

@@ -1,7 +1,7 @@
 -- What the tests of `fabsf` and of `is_finite` say of a float; and that two finite floats that are `Same` compare as equal.
 -- Assumes nothing.
 use mathlib.Core.Path.{_≡_, refl, ap, sym, _∙_, subst}
-use mathlib.Core.Bool.{Bool, true, false, not, _&&_, _||_, Bool·beq, cond, or-true, or-false, or-comm, true≢false, false≢true}
+use mathlib.Core.Bool.{Bool, true, false, not, _&&_, _||_, Bool·beq, cond, true≢false, false≢true}
 use Prim.Native.Nat.{ℕ, zero, suc, _+_, _-_, _*_, _^_, _<_}
 use native.Mathlib.Nat.{add-zero, zero-mul, one-mul, mul-one, sub-self, mul-pos, zero-lt-suc, pow-succ'}
 use native.Mathlib.Omega.{arith}
@@ -10,12 +10,12 @@ use lib.IntN.{ℤ, pos, negsuc}
 use lib.Dec.{T, ltb, eqb, eqb→eq, eqb-refl, leb·zero, leb·suc-suc, leb·suc-zero}
 use lib.Ieee.{Float, nan, inf, fin, Format, binary32, up, down, round, neg, sum, sub, lt, eq, fits}
 use lib.Ieee.Bits.{is-true}
-use borrow.Author.Tests.{lt-ltb, le-ltb}
+use borrow.Author.Tests.{lt-ltb}
 use lib.Ieee.Fits.{up-pos, and-l}
 use lib.Ieee.Scale.{finite}
-use Rattle.number.specs.Same.{Same, fabsfOf}
+use Rattle.number.specs.Same.{Same, plain, fabsfOf}
 use Rattle.number.proofs.Signs.{round-zero}
-use Rattle.number.proofs.Same.{same-refl, same-sym, same-eq}
+use Rattle.number.proofs.Same.{same-refl, same-sym, same-lt, same-eq}
 
 abbrev pub nought : Float
 nought = fin false 0 (pos 0)
@@ -68,29 +68,21 @@ fabsf-other (inf false) h k = refl
 fabsf-other (fin true m e) h k = absurd (one-passes (m * up e * 1) (0 * down e) (zero-mul (down e)) h k)
 fabsf-other (fin false m e) h k = refl
 
--- one of two numbers on both sides of zero is above whatever is below the one further down
-further : (a b : ℕ) → (ltb b a || ltb 0 (a + b)) ≡ ltb 0 (a + b)
-further zero b = rw (le-ltb b 0 (omega arith))
-further (suc a) b = simp (lt-ltb 0 (suc a + b) (omega arith)) (or-true (ltb b (suc a)))
+-- what is not below zero is its own size, but for the sign of a zero
+not-negative : (x : Float) → lt x nought ≡ false → Same x (fabsfOf x)
+unfolding lt fabsfOf plain
+not-negative nan h = record { number = refl }
+not-negative (inf true) h = absurd (true≢false h)
+not-negative (inf false) h = record { number = refl }
+not-negative (fin true zero e) h = record { number = refl }
+not-negative (fin true (suc m) e) h = absurd (true≢false (sym (lt-ltb 0 (suc m * up e * 1 + 0 * down e) (above _ _ (mul-pos (mul-pos (zero-lt-suc m) (up-pos e)) (zero-lt-suc 0)))) ∙ h))
+  where
+    above : (a b : ℕ) → 0 < a → 0 < a + b
+    above a b h = omega arith
+not-negative (fin false m e) h = record { number = refl }
 
--- x is larger in size than l where x or -x is larger
-pub either-larger : (l x : Float) → (lt l x || lt l (neg x)) ≡ lt l (fabsfOf x)
-unfolding lt neg fabsfOf
-either-larger nan x = refl
-either-larger (inf t) nan = refl
-either-larger (inf true) (inf true) = refl
-either-larger (inf true) (inf false) = refl
-either-larger (inf false) (inf s) = refl
-either-larger (inf true) (fin s m e) = refl
-either-larger (inf false) (fin s m e) = refl
-either-larger (fin t n d) nan = refl
-either-larger (fin t n d) (inf true) = refl
-either-larger (fin t n d) (inf false) = refl
-either-larger (fin false n d) (fin false m e) = or-false (ltb (n * up d * down e) (m * up e * down d))
-either-larger (fin false n d) (fin true m e) = refl
-either-larger (fin true n d) (fin false m e) =
-    or-comm (ltb 0 (n * up d * down e + m * up e * down d)) (ltb (m * up e * down d) (n * up d * down e)) ∙ further (n * up d * down e) (m * up e * down d)
-either-larger (fin true n d) (fin true m e) = further (n * up d * down e) (m * up e * down d)
+pub size-above : (l x : Float) → lt x nought ≡ false → lt l x ≡ lt l (fabsfOf x)
+size-above l x h = same-lt (same-refl l) (not-negative x h)
 
 -- ---- finite
 

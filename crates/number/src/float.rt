@@ -1,5 +1,6 @@
 // The size of a float, and whether it is finite.
 ghost use mathlib.Core.Path.{_≡_};
+ghost use lib.Ieee.{lt};
 ghost use lib.Ieee.Scale.{finite};
 ghost use Rattle.number.specs.Same.{fabsfOf};
 
@@ -14,6 +15,16 @@ pub fn fabsf(x: f32) -> f32
         return 0.0;
     }
     x
+}
+
+// Whether x is larger in size than the limit. A comparison does not see the sign of a zero, so one test less than `fabsf` has will do.
+pub fn is_larger(x: f32, limit: f32) -> bool
+    ensures { λ r. ⌜ r ≡ lt limit (fabsfOf x) ⌝ }
+{
+    if x < 0.0 {
+        return -x > limit;
+    }
+    x > limit
 }
 
 // Neither NaN nor infinite: only of those two is x - x a NaN.

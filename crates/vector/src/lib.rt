@@ -49,13 +49,13 @@ impl Vector {
         (self.x == 0.0) & (self.y == 0.0) & (self.z == 0.0)
     }
 
-    // Whether some component is larger in size than the limit: it or its opposite is larger, which costs less than its size.
+    // Whether some component is larger in size than the limit.
     pub fn exceeds(self, limit: f32) -> bool
         ensures { λ r. ⌜ r ≡ exceedsOf self limit ⌝ }
     {
-        ((self.x > limit) | (-self.x > limit))
-            | ((self.y > limit) | (-self.y > limit))
-            | ((self.z > limit) | (-self.z > limit))
+        number::is_larger(self.x, limit)
+            | number::is_larger(self.y, limit)
+            | number::is_larger(self.z, limit)
     }
 
     pub fn sum(self) -> f32

@@ -1,12 +1,11 @@
--- `vector::Vector::exceeds` meets its contract: the two tests of a component are one of its size. Assumes nothing.
-use Rattle.number.proofs.Size.{either-larger}
+-- `vector::Vector::exceeds` meets its contract: each component by its own test. Assumes nothing.
 use Rattle.vector.specs.Vectors.{exceedsOf}
 use Rattle.vector.proofs.Vector.exceeds.Statement.{statement}
 use Rattle.vector.proofs.Vector.exceeds.Tie as tie
 
 returns : tie.Need-returns
 unfolding exceedsOf
-returns c = rw (either-larger _ _, either-larger _ _, either-larger _ _)
+returns c = rw (c .before .before .is-larger .ensures, c .before .is-larger2 .ensures, c .is-larger3 .ensures)
 
 pub exceeds-spec : {M : Type 1} → statement M
-exceeds-spec = tie.close (tie.spec returns)
+exceeds-spec = tie.close (tie.spec (λ c κs. tt) (λ c κs. tt) (λ c κs. tt) returns)
