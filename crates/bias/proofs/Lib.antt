@@ -1,3 +1,4 @@
+mod Shows
 pub mod Steps
 pub mod Covered
 pub mod Finite

@@ -2,6 +2,8 @@
 use answer::Answer;
 use vector::Vector;
 ghost use mathlib.Core.Path.{_≡_};
+ghost use mathlib.Core.Bool.{_&&_, cond};
+ghost use Rattle.vector.specs.Vectors.{finiteVector};
 ghost use Rattle.bias.specs.Settings.{finiteSettings, Derives};
 ghost use Rattle.bias.specs.Estimator.{finiteBias, advancedOf};
 ghost use Rattle.bias.specs.Calls.{Starts, Reads, SetsOffset, Restarts, SetsSettings};
@@ -176,24 +178,44 @@ impl Bias {
         }
     }
 
-    // Subtracts the offset from a reading, and learns from it; the answer is of before that growth.
-    pub fn update(self, gyroscope: Vector) -> Reading
-        ensures { λ r. ⌜ Reads self gyroscope r ⌝ }
+    // Whether the state, the corrected reading and the next state are finite. Where the offset grew, its being finite says so of all that it grew from.
+    fn is_sound(self, corrected: Vector, next: Bias) -> bool
+        requires { ⌜ next ≡ advancedOf self corrected ⌝ }
+        ensures { λ r. ⌜ r ≡ (finiteBias self && finiteVector corrected && finiteBias next) ⌝ }
     {
-        if !(self.is_finite() & gyroscope.is_finite()) {
-            return Reading {
-                state: self,
-                answer: Answer::Refused(5),
-            };
+        let settings = self.settings;
+        let grown = next.offset;
+        if corrected.exceeds(settings.stationary_threshold) | (self.timer < self.timeout) {
+            return self.is_finite() & corrected.is_finite();
         }
-        let offset = self.offset;
-        let corrected = gyroscope.sub(offset);
-        let next = self.advanced(corrected);
-        if !(next.is_finite() & corrected.is_finite()) {
+        settings.is_finite() & grown.is_finite()
+    }
+
+    // A refused reading: 7 where all that was given is finite, else 5.
+    fn refused(self, gyroscope: Vector) -> Reading
+        ensures { λ r. ⌜ r ≡ record { state = self; answer = Answer.Refused (cond (finiteBias self && finiteVector gyroscope) 7 5) } ⌝ }
+    {
+        if self.is_finite() & gyroscope.is_finite() {
             return Reading {
                 state: self,
                 answer: Answer::Refused(7),
             };
+        }
+        Reading {
+            state: self,
+            answer: Answer::Refused(5),
+        }
+    }
+
+    // Subtracts the offset from a reading, and learns from it; the answer is of before that growth.
+    pub fn update(self, gyroscope: Vector) -> Reading
+        ensures { λ r. ⌜ Reads self gyroscope r ⌝ }
+    {
+        let offset = self.offset;
+        let corrected = gyroscope.sub(offset);
+        let next = self.advanced(corrected);
+        if !self.is_sound(corrected, next) {
+            return self.refused(gyroscope);
         }
         Reading {
             state: next,

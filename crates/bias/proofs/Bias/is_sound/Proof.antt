@@ -1,0 +1,19 @@
+-- `bias::Bias::is_sound` meets its contract: the next state is the state with another timer, or with another offset. Assumes nothing.
+use Rattle.bias.proofs.Steps.{standing, growing}
+use Rattle.bias.proofs.Bias.is_sound.Statement.{statement}
+use Rattle.bias.proofs.Bias.is_sound.Tie as tie
+
+returns : tie.Need-returns
+returns c =
+    let t = c .before .before in
+    let e = t .before .before in
+    standing _ _ (e .before .before .before .pre) (e .exceeds .ensures) (c .before .is-finite .ensures) (c .is-finite2 .ensures) (t .if1 .taken)
+
+returns-2 : tie.Need-returns-2
+returns-2 c =
+    let t = c .before .before in
+    let e = t .before .before in
+    growing _ _ (e .before .before .before .pre) (e .exceeds .ensures) (c .before .is-finite3 .ensures) (c .is-finite4 .ensures) (t .if1 .left)
+
+pub is-sound-spec : {M : Type 1} → statement M
+is-sound-spec = tie.close (tie.spec (λ c κs. tt) (λ c κs. tt) (λ c κs. tt) returns (λ c κs. tt) (λ c κs. tt) returns-2)
