@@ -26,13 +26,12 @@ fn candidate(n: u64) -> u64
     digits(twice + 4.0 * t / twice + 18014398509481984.0)
 }
 
-// The whole number nearest the root of n. The search ends with its candidate once no neighbour is
-// nearer: (r - 1/2)^2 < n < (r + 1/2)^2.
-fn nearest_root(n: u64) -> u64
-    requires { ⌜ (1 ≤ n) × (n < 2 ^ 48) ⌝ }
+// The search goes on from `first` until no neighbour is nearer: (r - 1/2)^2 < n < (r + 1/2)^2.
+fn search(n: u64, first: u64) -> u64
+    requires { ⌜ (1 ≤ n) × (n < 2 ^ 48) × (first < 2 ^ 25) ⌝ }
     ensures { λ r. ⌜ r ≡ nearestRootOf n ⌝ }
 {
-    let mut r = candidate(n);
+    let mut r = first;
     let significand = loop {
         let square = r * r;
         if square + r < n {
@@ -44,6 +43,19 @@ fn nearest_root(n: u64) -> u64
         }
     };
     significand
+}
+
+// The whole number nearest the root of n: nearly always the candidate itself.
+fn nearest_root(n: u64) -> u64
+    requires { ⌜ (1 ≤ n) × (n < 2 ^ 48) ⌝ }
+    ensures { λ r. ⌜ r ≡ nearestRootOf n ⌝ }
+{
+    let r = candidate(n);
+    let square = r * r;
+    if (n <= square + r) & (square < n + r) {
+        return r;
+    }
+    search(n, r)
 }
 
 // The number with the bits b is `significand` * 2^(`exponent` - 275), and the significand has 24 digits.
