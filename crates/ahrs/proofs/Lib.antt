@@ -8,6 +8,7 @@ pub mod Covered
 mod Timeouts
 mod Conjoined
 mod Finite
+mod Shows
 mod Counting
 mod Accepting
 mod Sound

@@ -11,7 +11,11 @@ use step::rate::integrate;
 use step::rate::ramp;
 use vector::Vector;
 ghost use mathlib.Core.Path.{_≡_};
-ghost use Rattle.ahrs.specs.Filter.{overrangeOf, judgedOf, steppedOf};
+ghost use mathlib.Core.Bool.{cond, _&&_};
+ghost use lib.Ieee.Scale.{finite};
+ghost use Rattle.vector.specs.Vectors.{finiteVector};
+ghost use Rattle.step.specs.Sensor.{finiteRejection};
+ghost use Rattle.ahrs.specs.Filter.{finiteState, overrangeOf, judgedOf, steppedOf};
 ghost use Rattle.ahrs.specs.Calls.{Updates};
 
 // What the two sensors' steps leave, and the feedback of both.
@@ -98,6 +102,30 @@ impl Ahrs {
         }
     }
 
+    // Whether what a step drops is finite. All else that it reads shows in the next state, which is not finite where that is not.
+    fn drops_finite(self) -> bool
+        ensures { λ r. ⌜ r ≡ (finiteVector (self .accelerometer) && finiteRejection (self .acceleration) && finiteRejection (self .magnetic) && finite (self .«startup_gain»)) ⌝ }
+    {
+        let accelerometer = self.accelerometer;
+        let acceleration = self.acceleration;
+        let magnetic = self.magnetic;
+        accelerometer.is_finite()
+            & acceleration.is_finite()
+            & magnetic.is_finite()
+            & number::is_finite(self.startup_gain)
+    }
+
+    // The number of an update that is refused and not by its convention: 5 where something given is not finite, else 7.
+    fn refusal(self, gyroscope: Vector, accelerometer: Vector, magnetometer: Vector) -> u8
+        ensures { λ r. ⌜ r ≡ cond (finiteState self && (finiteVector gyroscope && finiteVector accelerometer && finiteVector magnetometer)) 7 5 ⌝ }
+    {
+        let finite = gyroscope.is_finite() & accelerometer.is_finite() & magnetometer.is_finite();
+        if self.is_finite() & finite {
+            return 7;
+        }
+        5
+    }
+
     pub fn update(self, gyroscope: Vector, accelerometer: Vector, magnetometer: Vector) -> Reading
         ensures { λ r. ⌜ Updates self gyroscope accelerometer magnetometer r ⌝ }
     {
@@ -108,18 +136,12 @@ impl Ahrs {
                 answer: Answer::Refused(4),
             };
         }
-        let finite = gyroscope.is_finite() & accelerometer.is_finite() & magnetometer.is_finite();
-        if !(self.is_finite() & finite) {
-            return Reading {
-                state: self,
-                answer: Answer::Refused(5),
-            };
-        }
         let next = self.step(gyroscope, accelerometer, magnetometer);
-        if !next.is_finite() {
+        if !(self.drops_finite() & next.is_finite()) {
+            let number = self.refusal(gyroscope, accelerometer, magnetometer);
             return Reading {
                 state: self,
-                answer: Answer::Refused(7),
+                answer: Answer::Refused(number),
             };
         }
         let q = next.quaternion;

@@ -1,3 +1,4 @@
 pub mod Judging
+pub mod Shows
 pub mod Bench
 mod Wrong

@@ -1,3 +1,4 @@
 pub mod Arms
 pub mod Turning
+pub mod Shows
 mod Wrong
