@@ -1,4 +1,3 @@
-mod Shows
 pub mod Steps
 pub mod Covered
 pub mod Finite

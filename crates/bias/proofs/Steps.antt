@@ -20,7 +20,7 @@ use Rattle.bias.specs.declared.Started.the-variants.{Fresh, Refused as N
 use Rattle.bias.specs.Settings.{coefficientOf, timeoutOf, finiteSettings, aboveZero}
 use Rattle.bias.specs.Estimator.{finiteBias, freshOf, withTimer, withOffset, withSettings, correctedOf, advancedOf}
 use Rattle.bias.specs.Calls.{startChecks, startNumber, startValues, Starts, readingChecks, ratesOf, Reads, settingsChecks, SetsSettings}
-use Rattle.bias.proofs.Shows.{vector-add-shows, vector-sub-shows, vector-mul-shows}
+use Rattle.vector.proofs.Shows.{add-shows, sub-shows, mul-shows}
 
 -- ---- a start
 
@@ -107,7 +107,7 @@ module _ (b : Bias) (g : Vector) where
     pub reading-read : not s ≡ false → Reads b g (record { state = n; answer = ratesOf c })
     reading-read q =
         let f = all-three (finiteBias b) (finiteVector (correctedOf b g)) (finiteBias (advancedOf b (correctedOf b g))) (sym all ∙ still s q) in
-        let given = vector-sub-shows g (b .offset) (f .1) .0 in
+        let given = sub-shows g (b .offset) (f .1) .0 in
         let e : refusalOf (readingChecks b g) ≡ 0 = passes 5 _ (ap not (ap₂ _&&_ (f .0) given)) ∙ passes 7 _ (ap not (ap₂ _&&_ (f .2) (f .1))) ∙ all-pass in
         subst₂ (λ (x : Bias) (y : Vector). Reads b g (record { state = x; answer = ratesOf y })) (sym next) (sym ec)
         (record {
@@ -162,8 +162,8 @@ module _ (b : Bias) (c : Vector) where
   grew false false h =
       grows (finiteSettings (b .settings)) _ _ _ _
       (λ f.
-      let p = vector-add-shows (b .offset) (mulOf c (b .«filter_coefficient»)) f in
-      let q = vector-mul-shows c (b .«filter_coefficient») (p .1) in
+      let p = add-shows (b .offset) (mulOf c (b .«filter_coefficient»)) f in
+      let q = mul-shows c (b .«filter_coefficient») (p .1) in
       (q .1, p .0, q .0))
 
   abbrev moves : Bool
