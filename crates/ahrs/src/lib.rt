@@ -22,11 +22,11 @@ pub struct Ahrs {
     pub config: Config,
     pub quaternion: Quaternion,
     pub accelerometer: Vector,
+    pub startup: bool,
     pub startup_gain: f32,
+    pub overrange_recovery: bool,
     pub acceleration: Rejection,
     pub magnetic: Rejection,
-    pub startup: bool,
-    pub overrange_recovery: bool,
 }
 
 // An update: the state, and the new orientation or a refusal.

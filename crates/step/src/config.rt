@@ -9,11 +9,11 @@ pub struct Config {
     pub sample_period: f32,
     pub gain: f32,
     pub startup_gain_rate: f32,
+    pub overrange_enabled: bool,
     pub overrange_threshold: f32,
     pub acceleration_rejection: f32,
     pub magnetic_rejection: f32,
     pub rejection_timeout: i32,
-    pub overrange_enabled: bool,
 }
 
 pub const INITIAL_STARTUP_GAIN: f32 = 10.0;

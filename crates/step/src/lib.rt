@@ -10,8 +10,8 @@ pub use config::Config;
 
 // The convention is 0 for NWU, 1 for ENU, 2 for NED. The two limits are of squared half residuals, in place of the Rust's angles.
 pub struct Settings {
-    pub convention: u8,
     pub sample_rate: f32,
+    pub convention: u8,
     pub gain: f32,
     pub gyroscope_range: f32,
     pub acceleration_rejection_squared: f32,
