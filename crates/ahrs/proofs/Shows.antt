@@ -14,7 +14,7 @@ use Rattle.step.proofs.Shows.{rate-shows, integrated-shows, heading-shows}
 use Rattle.answer.proofs.Tests.{both, all-three}
 use Rattle.ahrs.specs.declared.Ahrs.{Ahrs}
 use Rattle.ahrs.specs.Filter.{finiteState, softRestartedOf, overrangeOf, judgedOf, steppedOf}
-use Rattle.ahrs.proofs.Finite.{Parts, whole, parts}
+use Rattle.ahrs.proofs.Finite.{whole, parts}
 
 -- what the step drops, and what it is given
 abbrev pub dropped : Ahrs → Bool

@@ -1,7 +1,7 @@
 -- A vector that is worked out is finite only where all that it is worked out of is: so a test of the result is one of the operands too.
 -- Assumes nothing.
 use mathlib.Core.Path.{_≡_, refl}
-use mathlib.Core.Bool.{Bool, true, false, cond, _&&_, false≢true}
+use mathlib.Core.Bool.{Bool, true, false, cond, false≢true}
 use lib.Ieee.{Float, nan, inf, fin, binary32, eq, ofBits}
 use lib.Ieee.Scale.{finite}
 use Rattle.number.specs.Float32 as float
@@ -10,7 +10,7 @@ use Rattle.number.proofs.Finite.{add-finite, sub-finite, mul-finite}
 use Rattle.answer.proofs.Tests.{all-three}
 use Rattle.root.specs.Root.{sqrtOf}
 use Rattle.vector.specs.declared.Vector.{Vector}
-use Rattle.vector.specs.Vectors.{zeroVector, finiteVector, isZeroOf, sumOf, hadamardOf, crossOf, normSquaredOf, normOf, normalizeOf, addOf, subOf, mulOf}
+use Rattle.vector.specs.Vectors.{zeroVector, finiteVector, isZeroOf, crossOf, normSquaredOf, normOf, normalizeOf, addOf, subOf, mulOf}
 
 abbrev Finite : Float → Type 0
 Finite x = finite x ≡ true

@@ -1,5 +1,5 @@
 -- `root::search` meets its contract. The invariant is the candidate's range, and the measure its distance from the root. Assumes nothing.
-use Prim.Native.Nat.{ℕ, _+_, _-_, _*_, _≤_, _<_, _^_}
+use Prim.Native.Nat.{_+_, _-_, _<_, _^_}
 use native.Mathlib.Omega.{arith}
 use borrow.Author.Needs.{needs}
 use Rattle.root.specs.Root.{nearestRootOf}
