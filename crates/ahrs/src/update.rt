@@ -103,7 +103,7 @@ impl Ahrs {
     }
 
     // Whether what a step drops is finite. All else that it reads shows in the next state, which is not finite where that is not.
-    fn drops_finite(self) -> bool
+    fn dropped_is_finite(self) -> bool
         ensures { λ r. ⌜ r ≡ (finiteVector (self .accelerometer) && finiteRejection (self .acceleration) && finiteRejection (self .magnetic) && finite (self .«startup_gain»)) ⌝ }
     {
         let accelerometer = self.accelerometer;
@@ -137,7 +137,7 @@ impl Ahrs {
             };
         }
         let next = self.step(gyroscope, accelerometer, magnetometer);
-        if !(self.drops_finite() & next.is_finite()) {
+        if !(self.dropped_is_finite() & next.is_finite()) {
             let number = self.refusal(gyroscope, accelerometer, magnetometer);
             return Reading {
                 state: self,

@@ -15,7 +15,6 @@ use Rattle.vector.specs.declared.Vector.{Vector}
 use Rattle.vector.specs.Vectors.{finiteVector, exceedsOf, addOf, mulOf}
 use Rattle.bias.specs.declared.BiasSettings.{BiasSettings}
 use Rattle.bias.specs.declared.Bias.{Bias}
-use Rattle.bias.specs.declared.Reading.{Reading}
 use Rattle.bias.specs.declared.Started.the-variants.{Fresh, Refused as NotStarted}
 use Rattle.bias.specs.Settings.{coefficientOf, timeoutOf, finiteSettings, aboveZero}
 use Rattle.bias.specs.Estimator.{finiteBias, freshOf, withTimer, withOffset, withSettings, correctedOf, advancedOf}
@@ -100,8 +99,8 @@ module _ (b : Bias) (g : Vector) where
     made false h q = stays 4 (fails 5 _ (ap not (sym h)))
     made true h q = stays 6 (passes 5 _ (ap not (sym h)) ∙ fails 7 _ (ap not (unmade _ _ _ (both (finiteBias b) (finiteVector g) (sym h) .0) (sym all ∙ q))))
 
-    pub reading-refused : {r : Reading} → r ≡ record { state = b; answer = Refused (cond (finiteBias b && finiteVector g) 7 5) } → not s ≡ true → Reads b g r
-    reading-refused e q = subst (Reads b g) (sym e) (made (finiteBias b && finiteVector g) refl (untrue s q))
+    pub reading-refused : {k : ℕ} → k ≡ cond (finiteBias b && finiteVector g) 7 5 → not s ≡ true → Reads b g (record { state = b; answer = Refused k })
+    reading-refused e q = subst (λ (k : ℕ). Reads b g (record { state = b; answer = Refused k })) (sym e) (made (finiteBias b && finiteVector g) refl (untrue s q))
 
     -- a corrected reading is finite only where the reading is
     pub reading-read : not s ≡ false → Reads b g (record { state = n; answer = ratesOf c })

@@ -179,7 +179,7 @@ impl Bias {
     }
 
     // Whether the state, the corrected reading and the next state are finite. Where the offset grew, its being finite says so of all that it grew from.
-    fn is_sound(self, corrected: Vector, next: Bias) -> bool
+    fn all_finite(self, corrected: Vector, next: Bias) -> bool
         requires { ⌜ next ≡ advancedOf self corrected ⌝ }
         ensures { λ r. ⌜ r ≡ (finiteBias self && finiteVector corrected && finiteBias next) ⌝ }
     {
@@ -191,20 +191,14 @@ impl Bias {
         settings.is_finite() & grown.is_finite()
     }
 
-    // A refused reading: 7 where all that was given is finite, else 5.
-    fn refused(self, gyroscope: Vector) -> Reading
-        ensures { λ r. ⌜ r ≡ record { state = self; answer = Answer.Refused (cond (finiteBias self && finiteVector gyroscope) 7 5) } ⌝ }
+    // The number of a reading that is refused: 5 where something given is not finite, else 7.
+    fn refusal(self, gyroscope: Vector) -> u8
+        ensures { λ r. ⌜ r ≡ cond (finiteBias self && finiteVector gyroscope) 7 5 ⌝ }
     {
         if self.is_finite() & gyroscope.is_finite() {
-            return Reading {
-                state: self,
-                answer: Answer::Refused(7),
-            };
+            return 7;
         }
-        Reading {
-            state: self,
-            answer: Answer::Refused(5),
-        }
+        5
     }
 
     // Subtracts the offset from a reading, and learns from it; the answer is of before that growth.
@@ -214,8 +208,12 @@ impl Bias {
         let offset = self.offset;
         let corrected = gyroscope.sub(offset);
         let next = self.advanced(corrected);
-        if !self.is_sound(corrected, next) {
-            return self.refused(gyroscope);
+        if !self.all_finite(corrected, next) {
+            let number = self.refusal(gyroscope);
+            return Reading {
+                state: self,
+                answer: Answer::Refused(number),
+            };
         }
         Reading {
             state: next,

@@ -75,14 +75,6 @@ near-le n s l h = not-more (λ (g : 2 ^ 24 < s). clash (mul-le-mul g (less g)) (
     not-more : ((2 ^ 24 < s) → ⊥) → s ≤ 2 ^ 24
     not-more f = omega arith
 
--- ---- a candidate's square
-
-pub square-fits : (r : ℕ) → r < 2 ^ 25 → r * r ≤ 2 ^ 25 * 2 ^ 25
-square-fits r h = mul-le-mul (less h) (less h)
-  where
-    less : r < 2 ^ 25 → r ≤ 2 ^ 25
-    less h = omega arith
-
 -- ---- a candidate that is too small, too large, or the root
 
 pub too-small : (n s r : ℕ) → Near n s → r * (r + 1) < n → r < s

@@ -26,36 +26,25 @@ fn candidate(n: u64) -> u64
     digits(twice + 4.0 * t / twice + 18014398509481984.0)
 }
 
-// The search goes on from `first` until no neighbour is nearer: (r - 1/2)^2 < n < (r + 1/2)^2.
-fn search(n: u64, first: u64) -> u64
-    requires { ⌜ (1 ≤ n) × (n < 2 ^ 48) × (first < 2 ^ 25) ⌝ }
-    ensures { λ r. ⌜ r ≡ nearestRootOf n ⌝ }
-{
-    let mut r = first;
-    let significand = loop {
-        let square = r * r;
-        if square + r < n {
-            r += 1;
-        } else if n + r <= square {
-            r -= 1;
-        } else {
-            break r;
-        }
-    };
-    significand
-}
-
-// The whole number nearest the root of n: nearly always the candidate itself.
+// The whole number nearest the root of n. The search ends with its candidate once no neighbour is
+// nearer, (r - 1/2)^2 < n < (r + 1/2)^2, which nearly always holds of the first.
 fn nearest_root(n: u64) -> u64
     requires { ⌜ (1 ≤ n) × (n < 2 ^ 48) ⌝ }
     ensures { λ r. ⌜ r ≡ nearestRootOf n ⌝ }
 {
-    let r = candidate(n);
-    let square = r * r;
-    if (n <= square + r) & (square < n + r) {
-        return r;
-    }
-    search(n, r)
+    let mut r = candidate(n);
+    let significand = loop {
+        let square = r * r;
+        if (n <= square + r) & (square < n + r) {
+            break r;
+        }
+        if square < n {
+            r += 1;
+        } else {
+            r -= 1;
+        }
+    };
+    significand
 }
 
 // The number with the bits b is `significand` * 2^(`exponent` - 275), and the significand has 24 digits.

@@ -2,9 +2,9 @@
 use Prim.Native.Nat.{ℕ}
 use native.Mathlib.Omega.{arith}
 use mathlib.Core.Path.{_≡_, ap}
-use mathlib.Core.Bool.{Bool, true, false, cond}
+use mathlib.Core.Bool.{true, false, cond}
 use lib.IntN.{pos, negsuc}
-use lib.Ieee.{Float, nan, inf, fin, ofBits, ofInt, lt, ne, add, sub, mul, div, neg, sum, round, units, odd}
+use lib.Ieee.{Float, nan, inf, fin, ofBits, lt, ne, add, sub, mul, neg, sum, round, units, odd}
 use Rattle.number.specs.Same.{fabsfOf}
 use Rattle.vector.specs.declared.Vector.{Vector}
 use Rattle.vector.specs.Vectors.{vector, exceedsOf}

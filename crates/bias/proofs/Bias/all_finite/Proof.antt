@@ -1,7 +1,7 @@
--- `bias::Bias::is_sound` meets its contract: the next state is the state with another timer, or with another offset. Assumes nothing.
+-- `bias::Bias::all_finite` meets its contract: the next state is the state with another timer, or with another offset. Assumes nothing.
 use Rattle.bias.proofs.Steps.{standing, growing}
-use Rattle.bias.proofs.Bias.is_sound.Statement.{statement}
-use Rattle.bias.proofs.Bias.is_sound.Tie as tie
+use Rattle.bias.proofs.Bias.all_finite.Statement.{statement}
+use Rattle.bias.proofs.Bias.all_finite.Tie as tie
 
 returns : tie.Need-returns
 returns c =
@@ -15,5 +15,5 @@ returns-2 c =
     let e = t .before .before in
     growing _ _ (e .before .before .before .pre) (e .exceeds .ensures) (c .before .is-finite3 .ensures) (c .is-finite4 .ensures) (t .if1 .left)
 
-pub is-sound-spec : {M : Type 1} → statement M
-is-sound-spec = tie.close (tie.spec (λ c κs. tt) (λ c κs. tt) (λ c κs. tt) returns (λ c κs. tt) (λ c κs. tt) returns-2)
+pub all-finite-spec : {M : Type 1} → statement M
+all-finite-spec = tie.close (tie.spec (λ c κs. tt) (λ c κs. tt) (λ c κs. tt) returns (λ c κs. tt) (λ c κs. tt) returns-2)
