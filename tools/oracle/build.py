@@ -11,7 +11,7 @@ ORACLE = TOP / "tools/oracle"
 BUILD = TOP / "target/beside"
 SOURCES = TOP.parent / "shared/docs/src"
 PACKAGE = "librust-libm-dev"
-MODES = ("math", "mounting", "bias", "log", "edge", "fuzz", "mix")
+MODES = ("math", "mounting", "bias", "pole", "edge", "fuzz", "mix")
 
 
 def stop(message):

@@ -6,6 +6,20 @@ use crate::state;
 use crate::words::{all_finite, bits, f, of_q, of_v, q, v};
 use fusion_ahrs::{Ahrs, AhrsSettings, Convention};
 
+/// The refusal that settings get before anything is derived from them, or 0. The angles are not looked at.
+pub fn unfit(a: &[u32]) -> u32 {
+    let [rate, convention, gain, range, acceleration, magnetic, timeout] = *a.first_chunk::<7>().unwrap();
+    if convention > 2 {
+        4
+    } else if !all_finite(&[rate, gain, range, acceleration, magnetic, timeout]) {
+        5
+    } else if !(f(rate) > 0.0) || f(acceleration) < 0.0 || f(magnetic) < 0.0 || f(timeout) < 0.0 {
+        6
+    } else {
+        0
+    }
+}
+
 impl Machine {
     pub fn ahrs(&mut self, code: u32, a: &[u32]) -> Answer {
         if code == 0x80 || code == 0x81 {
@@ -67,14 +81,9 @@ impl Machine {
     fn ahrs_settings(&mut self, code: u32, a: &[u32]) -> Answer {
         let [rate, convention, gain, range, acceleration, magnetic, timeout, acceleration_angle, magnetic_angle] =
             *a.first_chunk::<9>().unwrap();
-        if convention > 2 {
-            return refused(4);
-        }
-        if !all_finite(&[rate, gain, range, acceleration, magnetic, timeout]) {
-            return refused(5);
-        }
-        if !(f(rate) > 0.0) || f(acceleration) < 0.0 || f(magnetic) < 0.0 || f(timeout) < 0.0 {
-            return refused(6);
+        let number = unfit(a);
+        if number != 0 {
+            return refused(number);
         }
         for (limit, angle) in [(acceleration, acceleration_angle), (magnetic, magnetic_angle)] {
             let derived = state::limit_of(f(angle)).to_bits();

@@ -61,7 +61,7 @@ impl Script<'_> {
                 "math" => self.math(),
                 "mounting" => self.mounting(),
                 "bias" => self.bias(),
-                "log" | "sample" => self.log(),
+                "pole" | "sample" => self.pole(),
                 "edge" => self.edge(),
                 "fuzz" => self.fuzz(),
                 "mix" => self.mix(),
@@ -75,13 +75,13 @@ impl Script<'_> {
             0 => (0..50).for_each(|_| self.math()),
             1 => (0..20).for_each(|_| self.mounting()),
             2 => self.bias(),
-            3 => self.log(),
+            3 => self.pole(),
             4 | 5 => self.edge(),
             _ => (0..100).for_each(|_| self.fuzz()),
         }
     }
 
-    /// Some of everything, hard cases first; what is left of the script is a log.
+    /// Some of everything, hard cases first; what is left of the script is walks with the pole.
     fn sample(&mut self) {
         let all = self.left;
         let parts: [(u64, fn(&mut Self)); 5] =

@@ -5,15 +5,17 @@ mod edge;
 mod estimator;
 mod filter;
 mod generate;
+mod log;
 mod machine;
 mod plain;
 mod random;
 mod record;
+mod recording;
 mod state;
 mod walk;
 mod words;
 
-use std::io::{self, BufRead, BufReader, BufWriter, Write};
+use std::io::{self, BufRead, BufReader, BufWriter, Read, Write};
 
 const HELP: &str = "oracle run                            answer the script on standard input, a line for each call
 oracle make MODE SEED COUNT [QUIET]   a script of COUNT calls, one in QUIET (1) printing its state
@@ -21,8 +23,10 @@ oracle text                           a script as text, a line for each call
 oracle binary                         text back to a script
 oracle cover                          what the calls of a script reach, counted
 oracle calls                          the number and the name of every call
+oracle log                            replay the log on standard input, a line for each record
+oracle make-log SEED COUNT            a log of up to COUNT records, some damaged in one place
 
-MODE is math, mounting, bias, log, edge, fuzz, mix (of all these) or sample (some of each).
+MODE is math, mounting, bias, pole, edge, fuzz, mix (of all these) or sample (some of each).
 ";
 
 /// Each record of the script on standard input.
@@ -34,14 +38,17 @@ fn each(mut call: impl FnMut(&record::Record) -> io::Result<()>) -> io::Result<(
     Ok(())
 }
 
+fn number(args: &[String], i: usize) -> Option<u64> {
+    args.get(i).map(|s| s.parse().expect("a whole number"))
+}
+
 fn make(args: &[String], out: &mut impl Write) {
-    let number = |i: usize| args.get(i).map(|s| s.parse::<u64>().expect("a whole number"));
     let mut script = generate::Script {
-        random: random::Random(number(2).expect("SEED")),
+        random: random::Random(number(args, 2).expect("SEED")),
         machine: machine::Machine::default(),
         out: &mut |r| out.write_all(&record::to_bytes(r)).expect("written"),
-        quiet: number(4).unwrap_or(1),
-        left: number(3).expect("COUNT"),
+        quiet: number(args, 4).unwrap_or(1),
+        left: number(args, 3).expect("COUNT"),
         stuck: 0,
     };
     script.make(&args[1]);
@@ -73,6 +80,15 @@ fn run() -> io::Result<()> {
             for (code, name, _) in record::CALLS {
                 writeln!(out, "{code:02X} {name}")?;
             }
+        }
+        Some("log") => {
+            let mut bytes = Vec::new();
+            io::stdin().lock().read_to_end(&mut bytes)?;
+            log::replay(&bytes, &mut out)?;
+        }
+        Some("make-log") => {
+            let (seed, count) = (number(&args, 1).expect("SEED"), number(&args, 2).expect("COUNT"));
+            out.write_all(&recording::make(seed, count))?;
         }
         _ => out.write_all(HELP.as_bytes())?,
     }

@@ -4,7 +4,7 @@ use crate::generate::{Script, bits};
 use crate::random::Random;
 
 /// The true attitude, as gravity and north in the sensor's frame, and what troubles the sensors for how many steps more.
-struct Walk {
+pub struct Walk {
     rate: f64,
     flip: f64,
     up: [f64; 3],
@@ -23,13 +23,13 @@ fn turned([x, y, z]: [f64; 3], w: [f64; 3]) -> [f64; 3] {
 }
 
 impl Walk {
-    fn begin(rate: f64, convention: u32) -> Walk {
+    pub fn begin(rate: f64, convention: u32) -> Walk {
         let flip = if convention == 2 { -1.0 } else { 1.0 };
         let (up, north) = ([0.0, 0.0, 1.0], [1.0, 0.0, 0.0]);
         Walk { rate, flip, up, north, turn: [0.0; 3], disturbed: 0, knocked: 0, lost: 0 }
     }
 
-    fn step(&mut self, r: &mut Random) {
+    pub fn step(&mut self, r: &mut Random) {
         if r.one_in(80) {
             self.turn = [r.within(120.0), r.within(120.0), r.within(120.0)];
         }
@@ -43,7 +43,7 @@ impl Walk {
     }
 
     /// What the three sensors say.
-    fn readings(&self, r: &mut Random) -> [u32; 9] {
+    pub fn readings(&self, r: &mut Random) -> [u32; 9] {
         let knock = if self.knocked > 0 { 1.5 } else { 0.01 };
         let pull = if self.disturbed > 0 { 60.0 } else { 0.5 };
         let mut args = [0; 9];
@@ -63,7 +63,7 @@ impl Walk {
 }
 
 impl Script<'_> {
-    pub fn log(&mut self) {
+    pub fn pole(&mut self) {
         let mut s = self.ahrs_settings();
         let r = &mut self.random;
         s[0] = bits(r.pick(&[100.0, 50.0, 400.0]));

@@ -5,6 +5,7 @@ use mathlib.Core.Bool.{not}
 use mathlib.Core.List.{List, [], _∷_}
 use lib.Dec.{T}
 use Rattle.answer.specs.Refusals.{refusalOf}
+use Rattle.text.specs.Text.{refusedOf}
 use Rattle.vector.specs.Mounting.{mountingOf}
 use Rattle.remap.specs.declared.Mounting.the-variants.{Refused}
 use Rattle.remap.specs.First.{first}
@@ -20,7 +21,7 @@ abbrev whole-output : List ℕ
 whole-output = 43 ∷ 90 ∷ 43 ∷ 88 ∷ 43 ∷ 89 ∷ 10 ∷ []
 
 pub bench : (printed [] example ≡ whole-output) × (printed [] [] ≡ []) × (printed [] (10 ∷ []) ≡ textOf (Refused 1))
-unfolding printed lastOf answerOf refusalOf composeOf first same nameOf mountingOf textOf
+unfolding printed lastOf answerOf refusalOf composeOf first same nameOf mountingOf textOf refusedOf
 bench = (refl, refl, refl)
 
 -- the first name again, and the right name with no newline

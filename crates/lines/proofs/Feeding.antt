@@ -1,5 +1,5 @@
 -- What holds as a part of the input is fed byte by byte. Assumes nothing.
-use Prim.Native.Nat.{ℕ, _+_, _-_, _*_, _≤_, _<_}
+use Prim.Native.Nat.{ℕ, _+_, _*_, _≤_, _<_}
 use native.Mathlib.Omega.{arith}
 use native.Mathlib.Numerals.{add-one}
 use mathlib.Core.Path.{_≡_, refl, ap, ap₂, sym, _∙_}
@@ -8,13 +8,14 @@ use lib.ListN.{length, take, drop, getD, length-append}
 use lib.Seq.{take-suc, take-all}
 use Rattle.answer.specs.Refusals.{Check, refusalOf}
 use Rattle.wire.proofs.Cutting.{after-append, gives-append}
+use Rattle.text.specs.Putting.{over, Feeds}
+use Rattle.text.proofs.Putting.{puts-as, over-over}
+use Rattle.text.proofs.Feeding.{fed}
 use Rattle.lines.specs.declared.Line.{Line}
 use Rattle.lines.specs.declared.Fed.{Fed}
 use Rattle.lines.specs.Machine.{keptOf, printOf, lineAfter, textAfter}
-use Rattle.lines.specs.Feeding.{over, Feeds, Takes}
+use Rattle.lines.specs.Feeding.{Takes}
 use Rattle.lines.proofs.Keeping.{print-short}
-use Rattle.lines.proofs.Putting.{puts-as, over-over}
-use Rattle.lines.proofs.Promising.{fed}
 
 line-snoc : (l : Line) (s : List ℕ) (b : ℕ) → lineAfter l (s ++ (b ∷ [])) ≡ keptOf (lineAfter l s) b
 unfolding lineAfter
@@ -58,7 +59,7 @@ module _ (s old : List ℕ) (l : Line) (out : List ℕ) (f : Fed) (i : ℕ) (g :
             ∙ over-over (textAfter l (take i s)) (printOf (f .line) b) old ∙ ap (λ (x : List ℕ). over x old) (sym text);
       }
 
-  pub feed-all : (cs : List Check) → refusalOf cs ≡ 0 → length s ≤ i → Feeds cs l (lineAfter l s) (textAfter l s) old out f
+  pub feed-all : (cs : List Check) → refusalOf cs ≡ 0 → length s ≤ i → Feeds cs l (lineAfter l s) (textAfter l s) old out (f .line) (f .n) (f .refusal)
   feed-all cs e h =
       let whole : take i s ≡ s = take-all i s h in
       fed cs l (lineAfter l s) (textAfter l s) old e (g .number) (g .line ∙ ap (lineAfter l) whole)

@@ -7,6 +7,7 @@ use mathlib.Core.List.{List, []}
 use lib.Dec.{eqb}
 use lib.ListN.{length, set}
 use borrow.Author.Tests.{lt-ltb, le-ltb, eq-eqb, ne-eqb}
+use Rattle.text.specs.Text.{refusedOf}
 use Rattle.lines.specs.declared.Line.{Line}
 use Rattle.remap.specs.declared.Mounting.{Mounting}
 use Rattle.remap.specs.declared.Mounting.the-variants.{Number, Refused}
@@ -47,7 +48,7 @@ module _ (n : ℕ) (s : List ℕ) where
 -- ---- at most 10 bytes are printed for a byte
 
 text-short : (a : Mounting) → length (textOf a) ≤ 10
-unfolding textOf nameOf
+unfolding textOf nameOf refusedOf
 text-short (Number m) = omega arith
 text-short (Refused n) = omega arith
 

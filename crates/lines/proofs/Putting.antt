@@ -1,29 +1,18 @@
--- A text over what a slice held: nothing, a name's line, a refusal's, and one text behind another. Assumes nothing.
-use Prim.Native.Nat.{ℕ, _+_, _-_, _≤_, _<_}
+-- A name's line over what a slice held. Assumes nothing.
+use Prim.Native.Nat.{ℕ, _≤_, _<_}
 use native.Mathlib.Omega.{arith}
-use mathlib.Core.Path.{_≡_, refl, ap, ap₂, sym, _∙_, subst}
-use mathlib.Core.List.{List, [], _++_, append-assoc, append-nil}
-use lib.ListN.{length, take, drop, set, length-append, length-drop, drop-of-length-le}
-use lib.Seq.{drop-cons, drop-drop, length-take-le, take-all, take-append-seam, drop-append-seam}
+use mathlib.Core.Path.{_≡_, refl, ap, _∙_}
+use mathlib.Core.List.{List, _++_}
+use lib.ListN.{length, take, drop, set}
+use lib.Seq.{drop-cons, length-take-le}
 use borrow.Author.Tests.{le-ltb}
-use borrow.Rule.Slice.PartMut.{midOf, postOf, putMid}
 use Rattle.answer.proofs.Tests.{agrees}
 use Rattle.answer.specs.Refusals.{refusalOf, accepted}
 use Rattle.answer.proofs.Answering.{passes, all-pass}
+use Rattle.text.specs.Putting.{over, Puts}
 use Rattle.remap.specs.declared.Mounting.the-variants.{Number}
 use Rattle.remap.specs.Names.{nameOf, writeChecks, NameWritten}
 use Rattle.lines.specs.Rule.{textOf}
-use Rattle.lines.specs.Feeding.{over, Puts}
-
--- the same text, by another name
-pub puts-as : {t u old after : List ℕ} {n : ℕ} → t ≡ u → Puts t old after n → Puts u old after n
-puts-as {t} {u} {old} {after} {n} e p = subst (λ (x : List ℕ). Puts x old after n) e p
-
-pub puts-nothing : (old : List ℕ) → Puts [] old old 0
-unfolding over
-puts-nothing old = record { count = refl; holds = refl }
-
--- ---- an answer's line
 
 -- a name in the first six places, and a newline after it
 pub name-line : (m : ℕ) (old name : List ℕ) (r : ℕ) → m < 24 → 10 ≤ length old → NameWritten m (take 6 old) name r
@@ -37,25 +26,3 @@ name-line m old name r h l w =
       count = refl;
       holds = ap (λ (x : List ℕ). set (x ++ drop 6 old) 6 10) q ∙ ap (λ (x : List ℕ). set (nameOf m ++ x) 6 10) (drop-cons old 6 0 (omega arith));
     }
-
--- ---- one text behind another
-
--- of a slice, what stands from n on was lent and came back as ys
-put-rest : (n : ℕ) (old ys : List ℕ) → n ≤ length old → putMid n (length old - n) old ys ≡ take n old ++ ys
-put-rest n old ys h =
-    let e : postOf n (length old - n) old ≡ [] = drop-of-length-le (drop n old) {i = length old - n} (omega (arith, length-drop n old)) in
-    ap (λ (x : List ℕ). take n old ++ (ys ++ x)) e ∙ ap (λ (x : List ℕ). take n old ++ x) (append-nil ys)
-
-mid-rest : (n : ℕ) (old : List ℕ) → midOf n (length old - n) old ≡ drop n old
-mid-rest n old = take-all (length old - n) (drop n old) (omega (arith, length-drop n old))
-
-pub behind : (n : ℕ) (old : List ℕ) {t ys : List ℕ} {p : ℕ} → n ≤ length old → Puts t (midOf n (length old - n) old) ys p
-    → putMid n (length old - n) old ys ≡ take n old ++ over t (drop n old)
-behind n old {t} {ys} h q = put-rest n old ys h ∙ ap (λ (x : List ℕ). take n old ++ x) (q .holds ∙ ap (over t) (mid-rest n old))
-
-pub over-over : (t u old : List ℕ) → take (length t) (over t old) ++ over u (drop (length t) (over t old)) ≡ over (t ++ u) old
-unfolding over
-over-over t u old =
-    ap₂ (λ (x y : List ℕ). x ++ (u ++ drop (length u) y)) (take-append-seam t (drop (length t) old)) (drop-append-seam t (drop (length t) old))
-    ∙ ap (λ (x : List ℕ). t ++ (u ++ x)) (drop-drop (length u) (length t) old ∙ ap (λ (k : ℕ). drop k old) (sym (length-append t u)))
-    ∙ sym (append-assoc t u (drop (length (t ++ u)) old))

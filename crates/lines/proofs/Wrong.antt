@@ -5,6 +5,7 @@ use mathlib.Core.Path.{_≡_, ap}
 use mathlib.Core.List.{List, [], _∷_}
 use lib.ListN.{replicate}
 use Rattle.answer.specs.Refusals.{refusalOf}
+use Rattle.text.specs.Text.{refusedOf}
 use Rattle.lines.specs.declared.Line.{Line}
 use Rattle.lines.specs.declared.Fed.{Fed}
 use Rattle.lines.specs.Rule.{answerOf, textOf, lastOf}
@@ -22,10 +23,10 @@ pub of-feed
     : (PartFed freshLine (43 ∷ []) blank blank (fed freshLine 0 1) → ⊥)
     × (PartFed freshLine (43 ∷ []) blank blank (fed freshLine 0 0) → ⊥)
     × (PartFed freshLine (10 ∷ []) blank blank (fed freshLine 0 0) → ⊥)
-unfolding refusalOf answerOf textOf freshLine keptOf printOf lineAfter textAfter
+unfolding refusalOf refusedOf answerOf textOf freshLine keptOf printOf lineAfter textAfter
 of-feed = (
   λ h. let e = h .number in omega arith,
-  λ h. let z : _≡_ {A = ℕ} 0 1 = ap (λ (l : Line). l .n) (h .line) in omega arith,
+  λ h. let z : _≡_ {A = ℕ} 0 1 = ap (λ (l : Line). l .n) (h .state) in omega arith,
   λ h. let e = h .count in omega arith,
 )
 
@@ -34,9 +35,9 @@ pub of-last
     : ((after : List ℕ) → LastFed freshLine blank after (fed freshLine 10 0) → ⊥)
     × ((after : List ℕ) → LastFed (line 1 (replicate 13 43)) blank after (fed freshLine 0 0) → ⊥)
     × ((after : List ℕ) → LastFed (line 1 (replicate 13 43)) blank after (fed (line 1 (replicate 13 43)) 10 0) → ⊥)
-unfolding refusalOf answerOf textOf lastOf freshLine
+unfolding refusalOf refusedOf answerOf textOf lastOf freshLine
 of-last = (
   λ after h. let e = h .count in omega arith,
   λ after h. let e = h .count in omega arith,
-  λ after h. let z : _≡_ {A = ℕ} 1 0 = ap (λ (l : Line). l .n) (h .line) in omega arith,
+  λ after h. let z : _≡_ {A = ℕ} 1 0 = ap (λ (l : Line). l .n) (h .state) in omega arith,
 )

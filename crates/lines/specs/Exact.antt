@@ -2,11 +2,11 @@
 use Prim.Native.Nat.{ℕ}
 use mathlib.Core.Path.{_≡_}
 use mathlib.Core.List.{List}
-use Rattle.answer.specs.Refusals.{Check, Exactly}
+use Rattle.answer.specs.Refusals.{Exactly}
 use Rattle.lines.specs.declared.Line.{Line}
 use Rattle.lines.specs.declared.Fed.{Fed}
 use Rattle.lines.specs.Rule.{lineChecks}
-use Rattle.lines.specs.Feeding.{feedChecks, lastChecks, Feeds}
+use Rattle.lines.specs.Feeding.{feedChecks, lastChecks, PartFed, LastFed}
 
 pub record ExactlyWhen : Type 0 where
   pub line : (n : ℕ) (s : List ℕ) → Exactly (lineChecks n s)
@@ -14,7 +14,6 @@ pub record ExactlyWhen : Type 0 where
   pub last : (out : List ℕ) → Exactly (lastChecks out)
 
 -- two results that both satisfy the promise are the same, and leave the same in the lent slice
-abbrev pub OnlyOne : Type 0
-OnlyOne =
-    (cs : List Check) (l new : Line) (text old after also : List ℕ) (r s : Fed)
-    → Feeds cs l new text old after r → Feeds cs l new text old also s → (r ≡ s) × (after ≡ also)
+pub record OnlyOne : Type 0 where
+  pub feed : (l : Line) (part old after also : List ℕ) (r s : Fed) → PartFed l part old after r → PartFed l part old also s → (r ≡ s) × (after ≡ also)
+  pub last : (l : Line) (old after also : List ℕ) (r s : Fed) → LastFed l old after r → LastFed l old also s → (r ≡ s) × (after ≡ also)

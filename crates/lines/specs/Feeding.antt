@@ -4,17 +4,14 @@ use mathlib.Core.Path.{_≡_}
 use mathlib.Core.List.{List, [], _∷_, _++_}
 use lib.Dec.{ltb}
 use lib.ListN.{length, take, drop}
-use Rattle.answer.specs.Refusals.{Check, check, refusalOf, accepted}
+use Rattle.answer.specs.Refusals.{Check, check}
+use Rattle.text.specs.Putting.{over, Feeds}
 use Rattle.remap.specs.declared.Mounting.{Mounting}
 use Rattle.remap.specs.declared.Mounting.the-variants.{Number, Refused}
 use Rattle.lines.specs.declared.Line.{Line}
 use Rattle.lines.specs.declared.Fed.{Fed}
 use Rattle.lines.specs.Rule.{lastOf}
 use Rattle.lines.specs.Machine.{freshLine, keptOf, printOf, lineAfter, textAfter}
-
--- the text, and after it what stood there before
-unfoldable pub over : List ℕ → List ℕ → List ℕ
-over text old = text ++ drop (length text) old
 
 -- ---- the promise of the public functions
 
@@ -25,30 +22,18 @@ feedChecks part out = check 1 (ltb (length out) (10 * length part)) ∷ []
 abbrev pub lastChecks : List ℕ → List Check
 lastChecks out = check 1 (ltb (length out) 10) ∷ []
 
--- the line becomes `new` and the text is printed over what `out` held, or where the checks refuse all is as it was
-pub record Feeds (cs : List Check) (l new : Line) (text old after : List ℕ) (r : Fed) : Type 0 where
-  pub number : r .refusal ≡ refusalOf cs
-  pub line : r .line ≡ accepted (refusalOf cs) new l
-  pub count : r .n ≡ accepted (refusalOf cs) (length text) 0
-  pub holds : after ≡ accepted (refusalOf cs) (over text old) old
-
 abbrev pub PartFed : Line → List ℕ → List ℕ → List ℕ → Fed → Type 0
-PartFed l part old after r = Feeds (feedChecks part old) l (lineAfter l part) (textAfter l part) old after r
+PartFed l part old after r = Feeds (feedChecks part old) l (lineAfter l part) (textAfter l part) old after (r .line) (r .n) (r .refusal)
 
 abbrev pub LastFed : Line → List ℕ → List ℕ → Fed → Type 0
-LastFed l old after r = Feeds (lastChecks old) l freshLine (lastOf (l .n) (l .text)) old after r
+LastFed l old after r = Feeds (lastChecks old) l freshLine (lastOf (l .n) (l .text)) old after (r .line) (r .n) (r .refusal)
 
 -- ---- the promises of the inner functions
 
--- a mounting has a name, and a refusal's number one digit
+-- a mounting has a name
 abbrev pub Printable : Mounting → Type 0
 Printable (Number m) = m < 24
-Printable (Refused n) = n < 10
-
--- the text stands at the start, and n is its length
-pub record Puts (text old after : List ℕ) (n : ℕ) : Type 0 where
-  pub count : n ≡ length text
-  pub holds : after ≡ over text old
+Printable (Refused n) = Unit
 
 -- the byte's text stands behind what was printed before it
 pub record Takes (f : Fed) (b : ℕ) (old after : List ℕ) (r : Fed) : Type 0 where

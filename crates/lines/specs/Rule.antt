@@ -1,10 +1,11 @@
 -- 01, "Mountings", the program: what is printed for a line that is read, and for the whole input.
-use Prim.Native.Nat.{ℕ, _+_}
+use Prim.Native.Nat.{ℕ}
 use mathlib.Core.Bool.{not, _||_, cond}
 use mathlib.Core.List.{List, [], _∷_, _++_}
 use lib.Dec.{eqb, ltb}
 use lib.ListN.{length, getD, take, drop}
 use Rattle.answer.specs.Refusals.{Check, check}
+use Rattle.text.specs.Text.{refusedOf}
 use Rattle.remap.specs.declared.Mounting.{Mounting}
 use Rattle.remap.specs.declared.Mounting.the-variants.{Number, Refused}
 use Rattle.remap.specs.Given.{givenOf}
@@ -35,10 +36,10 @@ bothOf (Number a) (Number b) = givenOf (composeChecks a b) (composeOf a b)
 bothOf (Number a) (Refused n) = Refused 4
 bothOf (Refused n) second = Refused 4
 
--- the name, or `refused` and the number, and a newline
+-- the name and a newline, or the refusal's line
 unfoldable pub textOf : Mounting → List ℕ
 textOf (Number m) = nameOf m ++ (10 ∷ [])
-textOf (Refused n) = 114 ∷ 101 ∷ 102 ∷ 117 ∷ 115 ∷ 101 ∷ 100 ∷ 32 ∷ (n + 48) ∷ 10 ∷ []
+textOf (Refused n) = refusedOf n
 
 -- what is printed for a line of n bytes
 abbrev pub lineText : ℕ → List ℕ → List ℕ

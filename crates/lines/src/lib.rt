@@ -5,9 +5,10 @@ use remap::Mounting;
 ghost use mathlib.Core.Path.{_≡_};
 ghost use Prim.Native.Nat.{_+_, _≤_};
 ghost use lib.ListN.{length};
+ghost use Rattle.text.specs.Putting.{Puts};
 ghost use Rattle.lines.specs.Rule.{answerOf, bothOf, textOf, lineText};
 ghost use Rattle.lines.specs.Machine.{freshLine, keptOf, printOf};
-ghost use Rattle.lines.specs.Feeding.{Printable, Puts, Takes, PartFed, LastFed};
+ghost use Rattle.lines.specs.Feeding.{Printable, Takes, PartFed, LastFed};
 
 // The bytes of a line that is not ended, at most 13 of them; n is how many came, 14 for any more.
 pub struct Line {
@@ -84,13 +85,10 @@ fn put_name(mounting: u8, out: &mut [u8]) -> usize
 }
 
 fn put_refused(number: u8, out: &mut [u8]) -> usize
-    requires { ⌜ Printable (Mounting.Refused number) ⌝ }
     requires { ⌜ 10 ≤ length (now out) ⌝ }
     ensures { λ r. ⌜ Puts (textOf (Mounting.Refused number)) (now (out .entry)) (now (out .exit)) r ⌝ }
 {
-    let mut text = *b"refused 0\n";
-    text[8] = number + b'0';
-    bytes::copy(&text, out)
+    bytes::copy(&text::refused(number), out)
 }
 
 // Puts an answer's line at the start of `out`; how many bytes it is.

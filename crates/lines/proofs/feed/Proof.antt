@@ -3,8 +3,9 @@ use native.Mathlib.Omega.{arith}
 use borrow.Author.Needs.{needs}
 use Prim.Native.Nat.{_-_}
 use lib.ListN.{length}
+use Rattle.text.proofs.Feeding.{refused}
 use Rattle.lines.proofs.Feeding.{Feeding, feed-none, feed-next, feed-all}
-use Rattle.lines.proofs.Promising.{refused, no-room, room}
+use Rattle.lines.proofs.Promising.{no-room, room}
 use Rattle.lines.proofs.feed.Statement.{statement}
 use Rattle.lines.proofs.feed.Tie as tie
 

@@ -1,7 +1,8 @@
 -- `lines::last` meets its contract. Assumes nothing.
 use mathlib.Core.Path.{refl}
-use Rattle.lines.proofs.Putting.{puts-as, puts-nothing}
-use Rattle.lines.proofs.Promising.{refused, fed, no-room-for-last, room-for-last}
+use Rattle.text.proofs.Putting.{puts-as, puts-nothing}
+use Rattle.text.proofs.Feeding.{refused, fed}
+use Rattle.lines.proofs.Promising.{no-room-for-last, room-for-last}
 use Rattle.lines.proofs.Keeping.{last-empty, last-line}
 use borrow.Author.Needs.{needs}
 use Rattle.lines.proofs.last.Statement.{statement}

@@ -1,6 +1,6 @@
 -- `lines::print` meets its contract. Assumes nothing.
 use Rattle.lines.proofs.Keeping.{answered, silent}
-use Rattle.lines.proofs.Putting.{puts-as, puts-nothing}
+use Rattle.text.proofs.Putting.{puts-as, puts-nothing}
 use borrow.Author.Needs.{needs}
 use Rattle.lines.proofs.print.Statement.{statement}
 use Rattle.lines.proofs.print.Tie as tie

@@ -2,7 +2,7 @@
 use mathlib.Core.Path.{ap, sym, subst}
 use Rattle.lines.specs.Rule.{textOf}
 use Rattle.lines.specs.Feeding.{Printable}
-use Rattle.lines.proofs.Putting.{puts-as}
+use Rattle.text.proofs.Putting.{puts-as}
 use borrow.Author.Needs.{needs}
 use Rattle.lines.proofs.put.Statement.{statement}
 use Rattle.lines.proofs.put.Tie as tie
@@ -17,7 +17,7 @@ enum-known-answer-2 : tie.Need-enum-known-answer-2
 enum-known-answer-2 c = search needs
 
 put-refused-requires : tie.Need-put-refused-requires
-put-refused-requires c κs = (subst Printable (c .before .before .answer2 .given .1) (c .before .before .before .before .before .pre .0), c .before .before .before .before .before .pre .1)
+put-refused-requires c κs = c .before .before .before .before .before .pre .1
 
 same-length : tie.Need-same-length
 same-length c = search needs

@@ -3,7 +3,7 @@ use mathlib.Core.Path.{ap, sym, subst}
 use Rattle.lines.specs.Rule.{textOf}
 use Rattle.lines.specs.Feeding.{Printable}
 use Rattle.lines.proofs.Answering.{printable}
-use Rattle.lines.proofs.Putting.{puts-as}
+use Rattle.text.proofs.Putting.{puts-as}
 use borrow.Author.Needs.{needs}
 use Rattle.lines.proofs.put_answer.Statement.{statement}
 use Rattle.lines.proofs.put_answer.Tie as tie

@@ -3,7 +3,7 @@ use Prim.Native.Nat.{ℕ, _+_}
 use native.Mathlib.Omega.{arith}
 use mathlib.Core.Path.{refl, ap}
 use Rattle.lines.proofs.Keeping.{print-short}
-use Rattle.lines.proofs.Putting.{behind}
+use Rattle.text.proofs.Putting.{behind}
 use borrow.Author.Needs.{needs}
 use Rattle.lines.proofs.take_byte.Statement.{statement}
 use Rattle.lines.proofs.take_byte.Tie as tie

@@ -1,0 +1,11 @@
+pub mod Cutting
+mod Ending
+pub mod Feeding
+pub mod Judging
+mod Lining
+pub mod Promising
+pub mod Refusing
+pub mod Room
+pub mod Stepping
+pub mod Taking
+mod Wrong

@@ -1,0 +1,4 @@
+pub mod Exact
+pub mod Feeding
+pub mod Machine
+pub mod Rule

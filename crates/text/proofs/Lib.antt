@@ -1,0 +1,3 @@
+pub mod Feeding
+pub mod Putting
+mod Wrong
