@@ -7,5 +7,6 @@ pub mod Promising
 pub mod Refusing
 pub mod Room
 pub mod Stepping
+pub mod Stopping
 pub mod Taking
 mod Wrong
