@@ -3,6 +3,7 @@ mod Ending
 pub mod Feeding
 pub mod Judging
 mod Lining
+pub mod Passing
 pub mod Promising
 pub mod Refusing
 pub mod Room

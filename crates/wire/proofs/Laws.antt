@@ -4,7 +4,7 @@ use Prim.Native.Nat.{ℕ, zero, suc, _+_, _*_, _/_, _%_, _<_}
 use native.Mathlib.Omega.{arith}
 use native.Mathlib.Decide.{decLt}
 use mathlib.Core.Path.{_≡_, refl, ap, sym, _∙_, subst}
-use mathlib.Core.Bool.{Bool, true, false, not, cond}
+use mathlib.Core.Bool.{Bool, true, false, not, cond, _&&_}
 use mathlib.Core.List.{List, [], _∷_}
 use lib.Dec.{T, ltb, eqb}
 use lib.ListN.{length, getD, drop, drop-of-length-le}
@@ -15,6 +15,28 @@ use lib.Ieee.Compare.{differs-from-itself}
 use lib.Ieee.Scale.{finite}
 use borrow.Author.Tests.{lt-ltb, le-ltb, eq-eqb, ne-eqb}
 use Rattle.wire.specs.Wire.{finiteBits}
+
+-- a NaN's pattern without the sign's bit is above an infinity's
+pub nan-above : (n : ℕ) → ltb 2139095040 (n % 2147483648) ≡ nanBits binary32 n
+unfolding nanBits
+nan-above n = go (decLt 2139095040 (n % 2147483648)) (decLt (n % 2147483648) 2139095040)
+  where
+    go : Dec (2139095040 < n % 2147483648) → Dec (n % 2147483648 < 2139095040)
+        → ltb 2139095040 (n % 2147483648) ≡ (eqb (n % 2147483648 / 8388608) 255 && not (eqb (n % 8388608) 0))
+    go (yes l) d =
+        simp (
+          lt-ltb 2139095040 (n % 2147483648) l,
+          eq-eqb (n % 2147483648 / 8388608) 255 (omega arith),
+          ne-eqb (n % 8388608) 0 (λ e. omega arith),
+        )
+    go (no g) (yes h) =
+        simp (le-ltb 2139095040 (n % 2147483648) (omega arith), ne-eqb (n % 2147483648 / 8388608) 255 (λ e. omega arith))
+    go (no g) (no h) =
+        simp (
+          le-ltb 2139095040 (n % 2147483648) (omega arith),
+          eq-eqb (n % 2147483648 / 8388608) 255 (omega arith),
+          eq-eqb (n % 8388608) 0 (omega arith),
+        )
 
 finite-odd : (d : ℕ) (s : Bool) (q k l : ℕ) → finite (odd d s q k l) ≡ true
 unfolding odd

@@ -78,13 +78,11 @@ pub fn is_finite_bits(n: u32) -> bool
     n % 0x8000_0000 < 0x7F80_0000
 }
 
-// Whether a pattern is a NaN's: the exponent field is all ones, and a digit is set.
+// Whether a pattern is a NaN's: without the sign's bit it is above an infinity's.
 fn is_nan_bits(n: u32) -> bool
     ensures { λ r. ⌜ r ≡ nanBits binary32 n ⌝ }
 {
-    let ones = n % 0x8000_0000 / 0x80_0000 == 255;
-    let digits = n % 0x80_0000 != 0;
-    ones & digits
+    n % 0x8000_0000 > 0x7F80_0000
 }
 
 // The float of a pattern; `f32::from_bits` is not defined at a NaN's, so that one is made.

@@ -1,12 +1,10 @@
 -- `wire::is_nan_bits` meets its contract. Assumes nothing.
-use mathlib.Core.Path.{refl}
-use lib.Ieee.{nanBits}
+use Rattle.wire.proofs.Laws.{nan-above}
 use Rattle.wire.proofs.is_nan_bits.Statement.{statement}
 use Rattle.wire.proofs.is_nan_bits.Tie as tie
 
 returns : tie.Need-returns
-unfolding nanBits
-returns c = refl
+returns c = nan-above (c .args .n)
 
 pub is-nan-bits-spec : {M : Type 1} → statement M
 is-nan-bits-spec = tie.close (tie.spec returns)
