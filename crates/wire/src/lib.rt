@@ -1,7 +1,7 @@
 // Numbers in bytes, lowest byte first: 16 bits, and an f32 by its bit pattern.
 //
 // Every function is total: a byte past the end reads as 0, and a store past the end changes nothing.
-// Bytes are tested before they become a float: a reader asks `is_finite_bits` first.
+// Any pattern becomes a float, every NaN's the one NaN; a reader that refuses by the bits asks `is_finite_bits`.
 ghost use mathlib.Core.Path.{_≡_};
 ghost use Prim.Native.Nat.{_+_, _<_};
 ghost use lib.ListN.{getD, set};
