@@ -24,6 +24,7 @@ use line::put_words;
 use record::RECORD;
 use record::word_at;
 use said::Said;
+use verdict::Verdict;
 use words::Words;
 
 // The two states that calls change.
@@ -45,10 +46,13 @@ struct Printed {
     at: usize,
 }
 
-// The states after a block, and whether to read on.
+// The states after a block, what its lines and those before say of the run, and whether to read on; where a read or a write has
+// failed nothing more is printed.
 struct Turn {
     machine: Machine,
+    verdict: Verdict,
     more: bool,
+    failed: bool,
 }
 
 // The bytes of one read.
@@ -153,30 +157,63 @@ fn print_all(machine: Machine, block: &[u8], out: &mut Lines) -> Printed {
     Printed { machine, at }
 }
 
-fn write_part(lines: &[u8], n: usize) -> bool {
-    if n > lines.len() {
-        return false;
+// Writes the first n bytes, and says what they say of the run.
+fn write_part(lines: &[u8], n: usize, machine: Machine, before: Verdict) -> Turn {
+    if n <= lines.len() {
+        if io::write_all(libc::STDOUT_FILENO, &lines[0..n]) {
+            let verdict = before.over(&lines[0..n]);
+            return Turn {
+                machine,
+                verdict,
+                more: true,
+                failed: false,
+            };
+        }
     }
-    io::write_all(libc::STDOUT_FILENO, &lines[0..n])
+    os::fail(b"beside: standard output");
+    Turn {
+        machine,
+        verdict: before,
+        more: false,
+        failed: true,
+    }
 }
 
 // It takes the array, so that a caller that had it written has nothing to prove of its length.
-fn write(lines: &Lines, n: usize) -> bool {
-    write_part(lines, n)
+fn write(lines: &Lines, n: usize, machine: Machine, before: Verdict) -> Turn {
+    write_part(lines, n, machine, before)
 }
 
-// Reads a block of records, and writes its lines. A block that is not full, or whose lines cannot be written, is the last.
-fn read_on(machine: Machine) -> Turn {
+// Whether the input has ended, which one more read tells from a read that failed.
+fn is_end() -> bool {
+    let mut more = [0u8; 1];
+    libc::read(libc::STDIN_FILENO, &mut more) == 0
+}
+
+// Reads a block of records, and writes its lines. A block that is not full is the last.
+fn read_on(machine: Machine, verdict: Verdict) -> Turn {
     let mut block = io::buffer();
     let n = io::read_full(libc::STDIN_FILENO, &mut block);
+    if (n < BLOCK) && !is_end() {
+        os::fail(b"beside: standard input");
+        return Turn {
+            machine,
+            verdict,
+            more: false,
+            failed: true,
+        };
+    }
     let mut out = io::large_buffer();
     let printed = print_all(machine, &block[..n], &mut out);
     let machine = printed.machine;
-    let written = write(&out, printed.at);
-    Turn {
-        machine,
-        more: written & (n == BLOCK),
-    }
+    let mut turn = write(&out, printed.at, machine, verdict);
+    turn.more = turn.more & (n == BLOCK);
+    turn
+}
+
+// The first refusal in words.
+fn finish(verdict: Verdict) {
+    verdict.tell(b"beside", b"call");
 }
 
 // Nothing says that an input ends, so the turns are counted down, from a number that no run uses up.
@@ -185,10 +222,17 @@ fn main() {
         estimator: Estimator::Never,
         filter: Filter::Never,
     };
+    let mut verdict = Verdict::none();
+    let mut failed = false;
     let mut turns = u64::MAX;
     while turns > 0 {
-        let turn = read_on(machine);
+        let turn = read_on(machine, verdict);
         machine = turn.machine;
+        verdict = turn.verdict;
+        failed = turn.failed;
         turns = if turn.more { turns - 1 } else { 0 };
+    }
+    if !failed {
+        finish(verdict);
     }
 }
