@@ -1,5 +1,5 @@
-# Turns replay's lines into seconds and degrees: how far the sensor's z axis stands from up. `header` is the log's, 30 bytes
-# as octal numbers. Floats are decoded by hand, as not every awk reads hexadecimal.
+# Turns replay's lines into seconds and degrees: how far the sensor's z axis stands from up. The first line has the rate's bits
+# and the convention. Floats are decoded by hand, as not every awk reads hexadecimal.
 
 # The f32 with these bits.
 function float(bits,    sign, power, digits) {
@@ -10,10 +10,10 @@ function float(bits,    sign, power, digits) {
     return sign * (power ? (digits + 2 ^ 23) * 2 ^ (power - 150) : digits * 2 ^ -149)
 }
 
-# The number that a word of digits is in a base.
-function number(word, base,    i, n) {
+# The number that a word of hexadecimal digits is.
+function number(word,    i, n) {
     for (i = 1; i <= length(word); i++)
-        n = n * base + index("0123456789ABCDEF", substr(word, i, 1)) - 1
+        n = n * 16 + index("0123456789ABCDEF", substr(word, i, 1)) - 1
     return n
 }
 
@@ -22,24 +22,23 @@ function lean(w, x, y, z) {
     return atan2(2 * sqrt(x * x + y * y) * sqrt(w * w + z * z), w * w + z * z - x * x - y * y) * 180 / atan2(0, -1)
 }
 
-BEGIN {
-    split(header, byte, " ")
-    for (i = 10; i >= 7; i--)
-        bits = bits * 256 + number(byte[i], 8)
-    rate = float(bits)
-    down = number(byte[6], 8) == 2
-}
-
 /^refused/ {
     print
     next
 }
 
+NR == 1 {
+    rate = float(number($1))
+    down = $2 == 2
+    next
+}
+
 {
     for (i = 1; i <= 4; i++)
-        q[i] = float(number($i, 16))
+        q[i] = float(number($i))
     degrees = lean(q[1], q[2], q[3], q[4])
     # A quaternion of zero, which readings of huge size can leave, points nowhere.
     none = !q[1] && !q[2] && !q[3] && !q[4]
-    printf "%.3f %s\n", NR / rate, none ? "none" : sprintf("%.2f", down ? 180 - degrees : degrees)
+    printf "%.3f %s\n", (NR - 1) / rate, none ? "none" : sprintf("%.2f", down ? 180 - degrees : degrees)
+    fflush()
 }
