@@ -3,7 +3,7 @@
 use crate::machine::{Answer, Machine, gives, refused};
 use crate::plain::{inverse, mounting};
 use crate::state;
-use crate::words::{all_finite, bits, f, of_v, packed, unpacked, v};
+use crate::words::{all_finite, bits, f, length, of_v, packed, unpacked, v};
 use fusion_ahrs::{Bias, BiasSettings, RemapAlignment, remap};
 
 impl Machine {
@@ -92,7 +92,7 @@ impl Machine {
 
 /// The offset's record, in a buffer of the length given.
 fn record(bias: Bias, a: &[u32]) -> Answer {
-    let mut buffer = vec![0x2A; a[1] as usize];
+    let mut buffer = vec![0x2A; length(a[1], 256)];
     let number = match (buffer.len(), mounting(a[0])) {
         (18, Some(_)) => 0,
         (18, None) => 4,

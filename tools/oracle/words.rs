@@ -49,8 +49,13 @@ pub fn packed(bytes: &[u8]) -> Vec<u32> {
     bytes.chunks(4).map(word).collect()
 }
 
+/// A length that the port has room for; no script should have another.
+pub fn length(n: u32, most: u32) -> usize {
+    assert!(n <= most, "the script has a length of {n}, and {most} is the most");
+    n as usize
+}
+
 pub fn unpacked(words: &[u32], len: u32) -> Vec<u8> {
     let all: Vec<u8> = words.iter().flat_map(|w| w.to_le_bytes()).collect();
-    assert!(len as usize <= all.len(), "the script gives a length of {len}");
-    all[..len as usize].to_vec()
+    all[..length(len, all.len() as u32)].to_vec()
 }
