@@ -22,8 +22,14 @@ function lean(w, x, y, z) {
     return atan2(2 * sqrt(x * x + y * y) * sqrt(w * w + z * z), w * w + z * z - x * x - y * y) * 180 / atan2(0, -1)
 }
 
+# One write a line, so that a write that fails leaves no part of what comes after it.
+function tell(line) {
+    printf "%s", line "\n"
+    fflush()
+}
+
 /^refused/ {
-    print
+    tell($0)
     next
 }
 
@@ -39,6 +45,5 @@ NR == 1 {
     degrees = lean(q[1], q[2], q[3], q[4])
     # A quaternion of zero, which readings of huge size can leave, points nowhere.
     none = !q[1] && !q[2] && !q[3] && !q[4]
-    printf "%.3f %s\n", (NR - 1) / rate, none ? "none" : sprintf("%.2f", down ? 180 - degrees : degrees)
-    fflush()
+    tell(sprintf("%.3f %s", (NR - 1) / rate, none ? "none" : sprintf("%.2f", down ? 180 - degrees : degrees)))
 }
