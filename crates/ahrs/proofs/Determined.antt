@@ -1,27 +1,40 @@
 -- A promise has one result: `Determined` holds. Assumes nothing.
-use mathlib.Core.Path.{_≡_, sym, _∙_}
+use mathlib.Core.Path.{ap, sym, _∙_}
 use mathlib.Core.List.{List}
-use Rattle.answer.specs.Refusals.{Check, Changed}
+use Rattle.answer.specs.Refusals.{Check, Changed, One}
+use Rattle.answer.proofs.Answering.{only-one}
+use Rattle.vector.specs.declared.Vector.{Vector}
 use Rattle.ahrs.specs.declared.Ahrs.{Ahrs}
+use Rattle.ahrs.specs.declared.Reading.{Reading}
 use Rattle.ahrs.specs.declared.change.Change.{Change}
+use Rattle.ahrs.specs.Calls.{Updates}
 use Rattle.ahrs.specs.Determined.{Determined}
 
-one-change : (cs : List Check) (new old : Ahrs) (r r′ : Change) → Changed cs new old (r .state) (r .number) → Changed cs new old (r′ .state) (r′ .number) → r ≡ r′
-one-change cs new old r r′ p q = λ i. record { state = (p .holds ∙ sym (q .holds)) i; number = (p .number ∙ sym (q .number)) i }
+one-change : (cs : List Check) (new old : Ahrs) → One (λ (r : Change). Changed cs new old (r .state) (r .number))
+one-change cs new old r s p q =
+    let (number, state) = only-one .changed cs new old (r .state) (s .state) (r .number) (s .number) p q in
+    λ i. record { state = state i; number = number i }
+
+one-update : (s : Ahrs) (g a m : Vector) → One (Updates s g a m)
+one-update s g a m r t p q =
+    λ i. record { state = (p .state ∙ sym (q .state)) i; answer = only-one .answered _ _ _ _ _ (r .answer) (t .answer) (p .answer) (q .answer) i }
 
 pub determined : Determined
 determined =
     record {
-      start = λ t r r′ p q. p .exact ∙ sym (q .exact);
-      update = λ s g a m r r′ p q. λ i. record { state = (p .state ∙ sym (q .state)) i; answer = (p .answer .exact ∙ sym (q .answer .exact)) i };
-      restart = λ s r r′ p q. one-change _ _ _ r r′ p q;
-      skip-startup = λ s r r′ p q. one-change _ _ _ r r′ p q;
-      set-settings = λ s t r r′ p q. one-change _ _ _ r r′ p q;
-      set-sample-period = λ s x r r′ p q. one-change _ _ _ r r′ p q;
-      set-quaternion = λ s x r r′ p q. one-change _ _ _ r r′ p q;
-      settings = λ s r r′ p q. p .exact ∙ sym (q .exact);
-      quaternion = λ s r r′ p q. p .exact ∙ sym (q .exact);
-      vector = λ s v r r′ p q. p .exact ∙ sym (q .exact);
-      flags = λ s r r′ p q. p .exact ∙ sym (q .exact);
-      internal-states = λ s r r′ p q. p .exact ∙ sym (q .exact);
+      start = λ t. only-one .answered _ _ _ _ _;
+      update = one-update;
+      update-lent = λ s g a m after also r t p q.
+          let e = one-update s g a m _ _ p q in
+          (ap (λ (x : Reading). x .answer) e, ap (λ (x : Reading). x .state) e);
+      restart = λ s. one-change _ _ _;
+      skip-startup = λ s. one-change _ _ _;
+      set-settings = λ s t. one-change _ _ _;
+      set-sample-period = λ s p. one-change _ _ _;
+      set-quaternion = λ s q. one-change _ _ _;
+      settings = λ s. only-one .answered _ _ _ _ _;
+      quaternion = λ s. only-one .answered _ _ _ _ _;
+      vector = λ s v. only-one .answered _ _ _ _ _;
+      flags = λ s. only-one .answered _ _ _ _ _;
+      internal-states = λ s. only-one .answered _ _ _ _ _;
     }

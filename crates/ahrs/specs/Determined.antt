@@ -1,18 +1,18 @@
 -- 01, "What we will read in the promises": two results that both satisfy a call's promise are the same.
-use mathlib.Core.Path.{_≡_}
 use lib.Ieee.{Float}
+use Rattle.answer.specs.declared.Answer.{Answer}
+use Rattle.answer.specs.Refusals.{One, OneLent}
 use Rattle.vector.specs.declared.Vector.{Vector}
 use Rattle.math.specs.declared.quaternion.Quaternion.{Quaternion}
 use Rattle.step.specs.declared.Settings.{Settings}
 use Rattle.ahrs.specs.declared.Ahrs.{Ahrs}
 use Rattle.ahrs.specs.Calls.{Starts, Updates, Restarts, SkipsStartup, SetsSettings, SetsSamplePeriod, SetsQuaternion, SettingsReads, QuaternionReads, VectorReads, FlagsReads, StatesReads}
 
-abbrev pub One : {A : Type 0} → (A → Type 0) → Type 0
-One {A} P = (r r′ : A) → P r → P r′ → r ≡ r′
-
 pub record Determined : Type 0 where
   pub start : (t : Settings) → One (Starts t)
   pub update : (s : Ahrs) (g a m : Vector) → One (Updates s g a m)
+  -- the lent state afterwards, and the answer
+  pub update-lent : (s : Ahrs) (g a m : Vector) → OneLent (λ (after : Ahrs) (r : Answer). Updates s g a m (record { state = after; answer = r }))
   pub restart : (s : Ahrs) → One (Restarts s)
   pub skip-startup : (s : Ahrs) → One (SkipsStartup s)
   pub set-settings : (s : Ahrs) (t : Settings) → One (SetsSettings s t)

@@ -68,9 +68,16 @@ ByTheTable = (cs : List Check) → T (ascends 1 cs) → Exactly cs
 
 -- ---- the promises determine
 
--- two results that both satisfy a promise are the same, and leave the same behind
+-- two results that both satisfy a promise are the same
+abbrev pub One : {A : Type 0} → (A → Type 0) → Type 0
+One {A} P = (r s : A) → P r → P s → r ≡ s
+
+-- where something was lent, a promise is of what that holds afterwards too, and both are the same
+abbrev pub OneLent : {A B : Type 0} → (A → B → Type 0) → Type 0
+OneLent {A} {B} P = (now also : A) (r s : B) → P now r → P also s → (r ≡ s) × (now ≡ also)
+
+-- so it is with both records, whatever the type
 pub record OnlyOne : Type 1 where
-  pub answered : {A B : Type 0} (numberOf : A → ℕ) (valuesOf : A → List B) (refused : ℕ → A) (cs : List Check) (a r s : A)
-      → Answered numberOf valuesOf refused cs a r → Answered numberOf valuesOf refused cs a s → r ≡ s
-  pub changed : {A : Type 0} (cs : List Check) (new old now also : A) (r s : ℕ)
-      → Changed cs new old now r → Changed cs new old also s → (r ≡ s) × (now ≡ also)
+  pub answered : {A B : Type 0} (numberOf : A → ℕ) (valuesOf : A → List B) (refused : ℕ → A) (cs : List Check) (a : A)
+      → One (Answered numberOf valuesOf refused cs a)
+  pub changed : {A : Type 0} (cs : List Check) (new old : A) → OneLent (Changed cs new old)

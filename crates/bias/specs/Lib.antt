@@ -2,6 +2,7 @@ pub mod Settings
 pub mod Estimator
 pub mod Calls
 pub mod Exact
+pub mod Determined
 pub mod Runs
 pub mod Reached
 pub mod Symmetry

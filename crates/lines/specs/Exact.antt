@@ -1,10 +1,8 @@
 -- 01, "The refusal table", and "What we will read in the promises": each number is given exactly when its row says, and a result is the only one.
 use Prim.Native.Nat.{ℕ}
-use mathlib.Core.Path.{_≡_}
 use mathlib.Core.List.{List}
-use Rattle.answer.specs.Refusals.{Exactly}
+use Rattle.answer.specs.Refusals.{Exactly, OneLent}
 use Rattle.lines.specs.declared.Line.{Line}
-use Rattle.lines.specs.declared.Fed.{Fed}
 use Rattle.lines.specs.Rule.{lineChecks}
 use Rattle.lines.specs.Feeding.{feedChecks, lastChecks, PartFed, LastFed}
 
@@ -15,5 +13,5 @@ pub record ExactlyWhen : Type 0 where
 
 -- two results that both satisfy the promise are the same, and leave the same in the lent slice
 pub record OnlyOne : Type 0 where
-  pub feed : (l : Line) (part old after also : List ℕ) (r s : Fed) → PartFed l part old after r → PartFed l part old also s → (r ≡ s) × (after ≡ also)
-  pub last : (l : Line) (old after also : List ℕ) (r s : Fed) → LastFed l old after r → LastFed l old also s → (r ≡ s) × (after ≡ also)
+  pub feed : (l : Line) (part old : List ℕ) → OneLent (PartFed l part old)
+  pub last : (l : Line) (old : List ℕ) → OneLent (LastFed l old)

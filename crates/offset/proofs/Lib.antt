@@ -1,6 +1,7 @@
 pub mod Accepting
 pub mod Bench
 pub mod Checking
+pub mod Determined
 pub mod Once
 pub mod Reading
 pub mod ReadWritten

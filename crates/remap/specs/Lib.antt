@@ -1,4 +1,5 @@
 pub mod Composition
+pub mod Determined
 pub mod Exact
 pub mod First
 pub mod Given

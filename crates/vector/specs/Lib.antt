@@ -1,3 +1,4 @@
 pub mod Vectors
 pub mod Mounting
 pub mod Turned
+pub mod Determined
