@@ -61,7 +61,7 @@ told-again Nz = refl
 told-apart : (s t : Signed) → sign s ≡ sign t → letter s ≡ letter t → s ≡ t
 told-apart s t p q = sym (told-again s) ∙ ap₂ told p q ∙ told-again t
 
-spell-once : (a b : Mounting) → spell a ≡ spell b → a ≡ b
+pub spell-once : (a b : Mounting) → spell a ≡ spell b → a ≡ b
 spell-once a b e = λ i. record { x = px i; y = py i; z = pz i }
   where
     px : a .x ≡ b .x

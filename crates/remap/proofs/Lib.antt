@@ -1,4 +1,5 @@
 pub mod Composing
+pub mod Determinant
 pub mod Determined
 pub mod Giving
 pub mod Naming

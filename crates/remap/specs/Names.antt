@@ -4,9 +4,11 @@ use mathlib.Core.Path.{_≡_}
 use mathlib.Core.Bool.{Bool, true, false, not, _&&_}
 use mathlib.Core.List.{List, [], _∷_}
 use lib.Dec.{ltb, eqb}
+use lib.IntN.{pos}
 use lib.ListN.{length}
 use Rattle.answer.specs.Refusals.{Check, check, Changed}
 use Rattle.vector.specs.Mounting.{Signed, Mounting, mountingOf, read}
+use Rattle.vector.specs.Determinant.{determinantOf}
 use Rattle.remap.specs.declared.Mounting.{Mounting as Reading}
 use Rattle.remap.specs.declared.Mounting.the-variants.{Number}
 use Rattle.remap.specs.First.{firstMounting}
@@ -60,3 +62,8 @@ NameRead = (n : ℕ) → n < 24 → readOf (nameOf n) ≡ Number n
 -- no other bytes are that name
 abbrev pub NoOther : Type 0
 NoOther = (s : List ℕ) (n : ℕ) → readOf s ≡ Number n → (n < 24) × (s ≡ nameOf n)
+
+-- six bytes that spell any three signed axes are a name exactly when the determinant of the three is 1
+pub record NamesOfDeterminantOne : Type 0 where
+  pub all : (m : Mounting) → determinantOf m ≡ pos 1 → (n : ℕ) × (readOf (spell m) ≡ Number n)
+  pub no-other : (m : Mounting) (n : ℕ) → readOf (spell m) ≡ Number n → determinantOf m ≡ pos 1

@@ -1,4 +1,5 @@
 pub mod Arms
+pub mod Determinant
 pub mod Determined
 pub mod Turning
 pub mod Shows

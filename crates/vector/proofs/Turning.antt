@@ -50,7 +50,7 @@ keeps-at : (m : Mounting) → T (permutes m) → (a b c : Bool) → T (keeps m a
 keeps-at m t a b c =
     both-at (λ c. keeps m a b c) (both-at (λ b. both (λ c. keeps m a b c)) (both-at (λ a. both (λ b. both (λ c. keeps m a b c))) t a) b) c
 
-beq-eq : (a b : Bool) → T (Bool·beq a b) → a ≡ b
+pub beq-eq : (a b : Bool) → T (Bool·beq a b) → a ≡ b
 beq-eq true true t = refl
 beq-eq true false t = absurd t
 beq-eq false true t = absurd t

@@ -1,4 +1,5 @@
 pub mod Vectors
 pub mod Mounting
+pub mod Determinant
 pub mod Turned
 pub mod Determined
