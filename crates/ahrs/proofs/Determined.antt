@@ -36,5 +36,5 @@ determined =
       quaternion = λ s. only-one .answered _ _ _ _ _;
       vector = λ s v. only-one .answered _ _ _ _ _;
       flags = λ s. only-one .answered _ _ _ _ _;
-      internal-states = λ s. only-one .answered _ _ _ _ _;
+      internal-states = λ s r t p q. only-one .answered _ _ _ _ _ r t (p .answer) (q .answer);
     }

@@ -1,7 +1,7 @@
 -- The rows of every call ascend, so the law of the refusal table holds of them. Assumes nothing.
 use Rattle.answer.specs.Refusals.{ascends}
 use Rattle.answer.proofs.Table.{by-the-table}
-use Rattle.ahrs.specs.Calls.{startChecks, updateChecks, stateChecks, settingsChecks, periodChecks, quaternionChecks, vectorChecks, statesChecks}
+use Rattle.ahrs.specs.Calls.{startChecks, updateChecks, stateChecks, settingsChecks, periodChecks, quaternionChecks, vectorChecks}
 use Rattle.ahrs.specs.Exact.{ExactlyWhen}
 
 pub exactly-when : ExactlyWhen
@@ -15,5 +15,4 @@ exactly-when =
       set-quaternion = λ s q. by-the-table (quaternionChecks s q) tt;
       of-the-state = λ s. by-the-table (stateChecks s) tt;
       vector = λ s v. by-the-table (vectorChecks s v) tt;
-      internal-states = λ s. by-the-table (statesChecks s) tt;
     }

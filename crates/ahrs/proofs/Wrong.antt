@@ -5,7 +5,7 @@ use mathlib.Core.Path.{_≡_, ap}
 use mathlib.Core.Bool.{Bool, true, false, cond}
 use lib.IntN.{pos}
 use lib.Signed.{mag}
-use lib.Ieee.{Float, nan, fin, ofBits, ofInt, lt, add, sub, mul, div, neg, sum, round, units, odd}
+use lib.Ieee.{Float, nan, fin, ofBits, lt, add, sub, mul, neg, sum, round, units, odd}
 use Rattle.answer.specs.declared.Answer.the-variants.{Oriented, Refused}
 use Rattle.answer.specs.Refusals.{refusalOf}
 use Rattle.vector.specs.declared.Vector.{Vector}
@@ -22,10 +22,10 @@ use Rattle.ahrs.specs.declared.read.VectorRead as told
 use Rattle.ahrs.specs.declared.read.FlagsRead as flags
 use Rattle.ahrs.specs.declared.read.StatesRead as states
 use Rattle.step.specs.Config.{finiteSettings, finiteConfig}
-use Rattle.step.specs.Sensor.{resetOf, ratioOf, finiteRejection}
+use Rattle.step.specs.Sensor.{resetOf, finiteRejection}
 use Rattle.step.specs.Direction.{halfGravityOf}
 use Rattle.ahrs.specs.Filter.{finiteState, freshOf, restartedOf, skippedStartup, withSamplePeriod, withQuaternion}
-use Rattle.ahrs.specs.Read.{gravityOf, linearOf, turnedOf, withoutGravity, earthOf, flagsOf, statesOf, finiteStates}
+use Rattle.ahrs.specs.Read.{gravityOf, linearOf, turnedOf, withoutGravity, earthOf, flagsOf, statesOf}
 use Rattle.ahrs.specs.Calls.{Starts, Updates, Restarts, SkipsStartup, SetsSettings, SetsSamplePeriod, SetsQuaternion, SettingsReads, QuaternionReads, VectorReads, FlagsReads, StatesReads}
 
 abbrev nought : Float
@@ -226,7 +226,14 @@ stated b =
       «magnetic_recovery_trigger» = nought;
     })
 
--- an ignored accelerometer that is not told; the states of a state that is refused
-pub of-states : (StatesReads (at-start 0) (stated false) → ⊥) × (StatesReads (at-start 3) (stated true) → ⊥)
-unfolding refusalOf finiteState finiteSettings finiteConfig finiteQuaternion finiteVector finiteRejection statesOf finiteStates ratioOf ofInt div round units odd ofBits
-of-states = (λ h. let z : _≡_ {A = ℕ} 0 1 = ap is-ignored (h .exact) in omega arith, λ h. let z : _≡_ {A = ℕ} 0 4 = h .number in omega arith)
+-- an ignored accelerometer that is not told; the states of a state that is refused; 7, for which there is no cause
+pub of-states
+    : (StatesReads (at-start 0) (stated false) → ⊥)
+    × (StatesReads (at-start 3) (stated true) → ⊥)
+    × (StatesReads (at-start 0) (states.the-variants.Refused 7) → ⊥)
+unfolding refusalOf finiteState finiteSettings finiteConfig finiteQuaternion finiteVector finiteRejection statesOf
+of-states = (
+  λ h. let z : _≡_ {A = ℕ} 0 1 = ap is-ignored (h .answer .exact) in omega arith,
+  λ h. let z : _≡_ {A = ℕ} 0 4 = h .answer .number in omega arith,
+  λ h. let z : _≡_ {A = ℕ} 7 0 = h .answer .number in omega arith,
+)

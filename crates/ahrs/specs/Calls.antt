@@ -1,7 +1,7 @@
 -- Each call of the filter by the refusal table: its checks, what it gives, and its promise.
 use Prim.Native.Nat.{ℕ}
 use mathlib.Core.Path.{_≡_}
-use mathlib.Core.Bool.{not, _&&_}
+use mathlib.Core.Bool.{Bool, true, not, _&&_}
 use mathlib.Core.List.{List, [], _∷_}
 use lib.Ieee.{Float, lt}
 use lib.Ieee.Scale.{finite}
@@ -28,7 +28,7 @@ use Rattle.ahrs.specs.declared.read.InternalStates.{InternalStates}
 use Rattle.ahrs.specs.declared.read.StatesRead as states
 use Rattle.step.specs.Config.{knownConvention, finiteSettings, soundSettings, derivedOf, finiteConfig}
 use Rattle.ahrs.specs.Filter.{finiteState, freshOf, restartedOf, skippedStartup, withSettings, withSamplePeriod, withQuaternion, steppedOf}
-use Rattle.ahrs.specs.Read.{flagsOf, statesOf, finiteStates}
+use Rattle.ahrs.specs.Read.{flagsOf, statesOf}
 
 -- ---- a start
 
@@ -161,9 +161,11 @@ abbrev pub statesValues : states.StatesRead → List InternalStates
 statesValues (states.the-variants.Read i) = i ∷ []
 statesValues (states.the-variants.Refused n) = []
 
-abbrev pub statesChecks : Ahrs → List Check
-statesChecks s =
-    check 4 (not (knownConvention (s .settings))) ∷ check 5 (not (finiteState s)) ∷ check 7 (not (finiteStates (statesOf s))) ∷ []
+abbrev pub finiteStates : states.StatesRead → Bool
+finiteStates (states.the-variants.Read i) = finite (i .«acceleration_recovery_trigger») && finite (i .«magnetic_recovery_trigger»)
+finiteStates (states.the-variants.Refused n) = true
 
-abbrev pub StatesReads : Ahrs → states.StatesRead → Type 0
-StatesReads s r = Answered statesNumber statesValues states.the-variants.Refused (statesChecks s) (states.the-variants.Read (statesOf s)) r
+-- 7 is no check, since the ratios are finite whatever i32 the triggers and T are
+pub record StatesReads (s : Ahrs) (r : states.StatesRead) : Type 0 where
+  pub answer : Answered statesNumber statesValues states.the-variants.Refused (stateChecks s) (states.the-variants.Read (statesOf s)) r
+  pub is-finite : finiteStates r ≡ true

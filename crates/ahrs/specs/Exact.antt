@@ -5,7 +5,7 @@ use Rattle.vector.specs.declared.Vector.{Vector}
 use Rattle.math.specs.declared.quaternion.Quaternion.{Quaternion}
 use Rattle.step.specs.declared.Settings.{Settings}
 use Rattle.ahrs.specs.declared.Ahrs.{Ahrs}
-use Rattle.ahrs.specs.Calls.{startChecks, updateChecks, stateChecks, settingsChecks, periodChecks, quaternionChecks, vectorChecks, statesChecks}
+use Rattle.ahrs.specs.Calls.{startChecks, updateChecks, stateChecks, settingsChecks, periodChecks, quaternionChecks, vectorChecks}
 
 pub record ExactlyWhen : Type 0 where
   pub start : (t : Settings) → Exactly (startChecks t)
@@ -13,8 +13,7 @@ pub record ExactlyWhen : Type 0 where
   pub set-settings : (s : Ahrs) (t : Settings) → Exactly (settingsChecks s t)
   pub set-sample-period : (s : Ahrs) (period : Float) → Exactly (periodChecks s period)
   pub set-quaternion : (s : Ahrs) (q : Quaternion) → Exactly (quaternionChecks s q)
-  -- restart, skip_startup, settings, quaternion and flags
+  -- restart, skip_startup, settings, quaternion, flags and internal_states
   pub of-the-state : (s : Ahrs) → Exactly (stateChecks s)
   -- gravity and the two accelerations
   pub vector : (s : Ahrs) (v : Vector) → Exactly (vectorChecks s v)
-  pub internal-states : (s : Ahrs) → Exactly (statesChecks s)

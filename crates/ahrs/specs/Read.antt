@@ -1,8 +1,7 @@
 -- What the calls that read a state read, in the Rust's operation order.
 use Prim.Native.Nat.{ℕ}
-use mathlib.Core.Bool.{Bool, cond, _&&_}
+use mathlib.Core.Bool.{cond}
 use lib.Dec.{eqb}
-use lib.Ieee.Scale.{finite}
 use Rattle.number.specs.Float32.{_⊕_, _⊖_, _⊗_, one, two}
 use Rattle.vector.specs.declared.Vector.{Vector}
 use Rattle.math.specs.declared.quaternion.Quaternion.{Quaternion}
@@ -55,6 +54,3 @@ statesOf s =
       «magnetometer_ignored» = s .magnetic .ignored;
       «magnetic_recovery_trigger» = ratioOf (s .magnetic .«recovery_trigger») timeout;
     }
-
-unfoldable pub finiteStates : InternalStates → Bool
-finiteStates i = finite (i .«acceleration_recovery_trigger») && finite (i .«magnetic_recovery_trigger»)

@@ -5,7 +5,7 @@ use step::Settings;
 use step::direction::half_gravity;
 use vector::Vector;
 ghost use mathlib.Core.Path.{_≡_};
-ghost use Rattle.ahrs.specs.Read.{gravityOf, linearOf, turnedOf, withoutGravity, earthOf, finiteStates};
+ghost use Rattle.ahrs.specs.Read.{gravityOf, linearOf, turnedOf, withoutGravity, earthOf};
 ghost use Rattle.ahrs.specs.Calls.{SettingsReads, QuaternionReads, VectorReads, FlagsReads, StatesReads};
 
 pub enum SettingsRead {
@@ -46,15 +46,6 @@ pub struct InternalStates {
 pub enum StatesRead {
     Read(InternalStates),
     Refused(u8),
-}
-
-impl InternalStates {
-    pub(crate) fn is_finite(self) -> bool
-        ensures { λ r. ⌜ r ≡ finiteStates self ⌝ }
-    {
-        number::is_finite(self.acceleration_recovery_trigger)
-            & number::is_finite(self.magnetic_recovery_trigger)
-    }
 }
 
 // A vector from the sensor's frame to the Earth's: each axis by half a row of the rotation matrix.
@@ -197,6 +188,7 @@ impl Ahrs {
         })
     }
 
+    // The ratios are finite whatever the counts are, so 7 is not asked for.
     pub fn internal_states(self) -> StatesRead
         ensures { λ r. ⌜ StatesReads self r ⌝ }
     {
@@ -217,9 +209,6 @@ impl Ahrs {
             magnetometer_ignored: magnetic.ignored,
             magnetic_recovery_trigger: magnetic.recovery_trigger(timeout),
         };
-        if !states.is_finite() {
-            return StatesRead::Refused(7);
-        }
         StatesRead::Read(states)
     }
 }

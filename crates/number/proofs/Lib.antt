@@ -4,5 +4,6 @@ pub mod Size
 pub mod Finite
 pub mod Unsigned
 pub mod Signed
+pub mod Quotient
 pub mod Range
 mod Wrong

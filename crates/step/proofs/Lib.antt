@@ -1,4 +1,5 @@
 pub mod Judging
+pub mod Ratio
 pub mod Shows
 pub mod Bench
 mod Wrong

@@ -1,8 +1,10 @@
 -- 01, "Filter": one sensor's rejection step. Its counts are those of the crate `rejection`.
+use mathlib.Core.Path.{_≡_}
 use mathlib.Core.Bool.{Bool, true, false, not, cond, _||_}
 use Prim.Native.Nat.{zero, suc}
 use lib.IntN.{ℤ, pos, negsuc}
 use lib.Ieee.{Float, binary32, le, lt, ofInt}
+use lib.Ieee.Scale.{finite}
 use Rattle.number.specs.Float32 as float
 use Rattle.number.specs.Float32.{_⊘_}
 use Rattle.vector.specs.declared.Vector.{Vector}
@@ -79,6 +81,11 @@ isNought (negsuc n) = false
 -- the trigger ratio is 0.0 for T = 0, else both counts converted by round to nearest, ties to even, and divided
 unfoldable pub ratioOf : ℤ → ℤ → Float
 ratioOf trigger timeout = cond (isNought timeout) float.zero (ofInt binary32 trigger ⊘ ofInt binary32 timeout)
+
+-- and it is finite, whatever i32 the trigger and T are
+pub record Ratio (r : Rejection) (timeout : ℤ) (x : Float) : Type 0 where
+  pub exact : x ≡ ratioOf (r .«recovery_trigger») timeout
+  pub is-finite : finite x ≡ true
 
 unfoldable pub finiteRejection : Rejection → Bool
 finiteRejection r = finiteVector (r .«half_residual»)

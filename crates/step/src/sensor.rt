@@ -4,7 +4,7 @@ use super::Rejection;
 use rejection::Counts;
 use vector::Vector;
 ghost use mathlib.Core.Path.{_≡_};
-ghost use Rattle.step.specs.Sensor.{resetOf, residualOf, skippedOf, rejectedOf, inclinationOf, headingOf, countsOf, ratioOf, finiteRejection};
+ghost use Rattle.step.specs.Sensor.{resetOf, residualOf, skippedOf, rejectedOf, inclinationOf, headingOf, countsOf, Ratio, finiteRejection};
 
 // A sensor's next rejection, and the feedback to apply, scaled by 0.5.
 pub struct Feedback {
@@ -146,7 +146,7 @@ impl Rejection {
 
     // The recovery trigger as a fraction of the timeout.
     pub fn recovery_trigger(self, timeout: i32) -> f32
-        ensures { λ r. ⌜ r ≡ ratioOf (self .«recovery_trigger») timeout ⌝ }
+        ensures { λ r. ⌜ Ratio self timeout r ⌝ }
     {
         if timeout == 0 {
             return 0.0;

@@ -1,5 +1,6 @@
 -- `ahrs::Ahrs::internal_states` meets its contract: each return by the checks before it; the ratios by what `recovery_trigger` ensures. Assumes nothing.
-use mathlib.Core.Path.{_≡_, refl}
+use mathlib.Core.Path.{_≡_, refl, ap₂}
+use mathlib.Core.Bool.{_&&_}
 use mir.Syntax.{w32}
 use mir.Val.{toZ, ofZ}
 use borrow.Author.Needs.{needs}
@@ -7,7 +8,7 @@ use Rattle.ahrs.specs.declared.read.StatesRead.the-variants.{Refused}
 use Rattle.ahrs.specs.Read.{statesOf}
 use Rattle.ahrs.specs.Calls.{statesNumber, statesValues}
 use Rattle.answer.proofs.Tests.{one}
-use Rattle.ahrs.proofs.Telling.{told-4, told-5, told-7, told-finite}
+use Rattle.ahrs.proofs.Telling.{told-4, told-5, told}
 use Rattle.ahrs.proofs.Ahrs.internal_states.Statement.{statement}
 use Rattle.ahrs.proofs.Ahrs.internal_states.Tie as tie
 
@@ -17,32 +18,36 @@ timeout : (c : tie.After-struct-told) →
 timeout c = search needs
 
 returns : tie.Need-returns
-returns c = told-4 statesNumber statesValues Refused (λ n. refl) (λ n. refl) _ refl _ (one (c .before .is-known .ensures) (c .if1 .taken))
+returns c =
+    record {
+      answer = told-4 statesNumber statesValues Refused (λ n. refl) (λ n. refl) _ refl _ (one (c .before .is-known .ensures) (c .if1 .taken));
+      is-finite = refl;
+    }
 
 returns-2 : tie.Need-returns-2
 returns-2 c =
     let known = c .before .before in
-    told-5 statesNumber statesValues Refused (λ n. refl) (λ n. refl) _ refl _ (one (known .before .is-known .ensures) (known .if1 .left)) (one (c .before .is-finite .ensures) (c .if2 .taken))
+    record {
+      answer =
+          told-5 statesNumber statesValues Refused (λ n. refl) (λ n. refl) _ refl _
+          (one (known .before .is-known .ensures) (known .if1 .left)) (one (c .before .is-finite .ensures) (c .if2 .taken));
+      is-finite = refl;
+    }
 
 returns-3 : tie.Need-returns-3
 unfolding statesOf
 returns-3 c =
-    let recovery-trigger = c .before .before .before in
-    let finite = recovery-trigger .before .before .before .before .before in
+    let acceleration = c .before .recovery-trigger .ensures in
+    let magnetic = c .recovery-trigger2 .ensures in
+    let finite = c .before .before .before .before .before .before in
     let known = finite .before .before in
-    let told = c .before .before .before .before in
-    told-7 statesNumber statesValues Refused (λ n. refl) (λ n. refl) _ refl (one (known .before .is-known .ensures) (known .if1 .left)) (one (finite .before .is-finite .ensures) (finite .if2 .left))
-    (one (simp (c .before .before .recovery-trigger2 .ensures, recovery-trigger .recovery-trigger .ensures, timeout told) at (c .before .is-finite2 .ensures)) (c .if3 .taken))
-
-returns-4 : tie.Need-returns-4
-unfolding statesOf
-returns-4 c =
-    let recovery-trigger = c .before .before .before in
-    let finite = recovery-trigger .before .before .before .before .before in
-    let known = finite .before .before in
-    let told = c .before .before .before .before in
-    told-finite statesNumber statesValues Refused (λ n. refl) (λ n. refl) _ refl (simp (c .before .before .recovery-trigger2 .ensures, recovery-trigger .recovery-trigger .ensures, timeout told))
-    (one (known .before .is-known .ensures) (known .if1 .left)) (one (finite .before .is-finite .ensures) (finite .if2 .left)) (one (simp (c .before .before .recovery-trigger2 .ensures, recovery-trigger .recovery-trigger .ensures, timeout told) at (c .before .is-finite2 .ensures)) (c .if3 .left))
+    record {
+      answer =
+          told statesNumber statesValues Refused (λ n. refl) (λ n. refl) _ refl
+          (simp (magnetic .exact, acceleration .exact, timeout (c .before .before)))
+          (one (known .before .is-known .ensures) (known .if1 .left)) (one (finite .before .is-finite .ensures) (finite .if2 .left));
+      is-finite = ap₂ _&&_ (acceleration .is-finite) (magnetic .is-finite);
+    }
 
 pub internal-states-spec : {M : Type 1} → statement M
-internal-states-spec = tie.close (tie.spec (λ c κs. tt) returns (λ c κs. tt) returns-2 (λ c κs. tt) (λ c κs. tt) (λ c κs. tt) returns-3 returns-4)
+internal-states-spec = tie.close (tie.spec (λ c κs. tt) returns (λ c κs. tt) returns-2 (λ c κs. tt) (λ c κs. tt) returns-3)

@@ -1,11 +1,11 @@
 -- `step::Rejection::recovery_trigger` meets its contract: by the test; both counts come back from their bits. Assumes nothing.
-use mathlib.Core.Path.{_≡_}
 use mir.Syntax.{w32}
-use mir.Val.{toZ, ofZ}
+use mir.Val.{SFits}
 use mir.Facts.{toZ-ofZ}
 use borrow.Author.Needs.{needs}
 use Rattle.step.specs.Sensor.{ratioOf}
 use Rattle.step.proofs.Judging.{is-nought, no-nought}
+use Rattle.step.proofs.Ratio.{ratio}
 use Rattle.step.proofs.Rejection.recovery_trigger.Statement.{statement}
 use Rattle.step.proofs.Rejection.recovery_trigger.Tie as tie
 
@@ -13,15 +13,16 @@ returns : tie.Need-returns
 unfolding ratioOf
 returns c =
     let t = c .before .args .timeout in
-    simp (is-nought t (toZ-ofZ (c .before .fits .timeout)) (c .if1 .taken))
+    ratio (c .before .args .self) t (search needs) (simp (is-nought t (toZ-ofZ (c .before .fits .timeout)) (c .if1 .taken)))
 
 returns-2 : tie.Need-returns-2
 unfolding ratioOf
 returns-2 c =
     let first = c .before .before .before in
     let r = first .before .args .self in
-    let trigger : toZ w32 (ofZ w32 (r .«recovery_trigger»)) ≡ r .«recovery_trigger» = search needs in
-    simp (no-nought (first .before .args .timeout) (first .if1 .left), c .from-i322 .ensures, c .before .from-i32 .ensures, toZ-ofZ (first .before .fits .timeout), trigger)
+    let t = first .before .args .timeout in
+    let f : SFits w32 (r .«recovery_trigger») = search needs in
+    ratio r t f (simp (no-nought t (first .if1 .left), c .from-i322 .ensures, c .before .from-i32 .ensures, toZ-ofZ (first .before .fits .timeout), toZ-ofZ f))
 
 pub recovery-trigger-spec : {M : Type 1} → statement M
 recovery-trigger-spec = tie.close (tie.spec returns (λ c κs. tt) (λ c κs. tt) returns-2)
