@@ -1,15 +1,15 @@
--- The mountings are all the triples of signed axes with determinant 1: one test, which antt computes at all 216 triples. Assumes nothing.
+-- The mountings are all the triples of signed axes with determinant 1: tests that antt computes at all 216 triples. Assumes nothing.
 use Prim.Native.Nat.{ℕ, zero, suc, _<_}
 use native.Mathlib.Omega.{arith}
 use mathlib.Core.Path.{_≡_, refl, ap, sym, subst, _∙_}
-use mathlib.Core.Bool.{Bool, true, false, _&&_, _||_, Bool·beq}
+use mathlib.Core.Bool.{Bool, true, false, not, _&&_, _||_, Bool·beq}
 use mathlib.Core.List.{List, [], _∷_}
-use lib.Dec.{T, eqb, eqb→eq, eqb-refl}
+use lib.Dec.{T, T-not, eqb, eqb→eq, eqb-refl}
 use lib.IntN.{ℤ, pos, negsuc}
 use lib.ListN.{length, getD}
 use lib.Ieee.Fits.{and-i, and-l, and-r}
 use Rattle.vector.specs.Mounting.{Signed, Px, Py, Pz, Nx, Ny, Nz, Mounting, mounting, mountings, mountingOf}
-use Rattle.vector.specs.Determinant.{determinantOf, Numbered, AllOfDeterminantOne}
+use Rattle.vector.specs.Determinant.{determinantOf, letterOf, Permutation, Numbered, AllOfDeterminantOne}
 use Rattle.vector.proofs.Turning.{beq-eq}
 
 -- ---- whether two mountings are the same
@@ -89,15 +89,7 @@ at-member (k ∷ ks) (suc n) h =
     let m = getD ks n (mounting Px Py Pz) in
     later (same m k) (member m ks) (at-member ks n (omega arith))
 
--- ---- the test, at every triple
-
-abbrev isOne : ℤ → Bool
-isOne (pos n) = eqb n 1
-isOne (negsuc n) = false
-
-is-one : (z : ℤ) → T (isOne z) → z ≡ pos 1
-is-one (pos n) t = ap pos (eqb→eq n 1 t)
-is-one (negsuc n) t = absurd t
+-- ---- a test at every triple
 
 abbrev each : (Signed → Bool) → Bool
 each f = f Px && (f Py && (f Pz && (f Nx && (f Ny && f Nz))))
@@ -118,19 +110,50 @@ each-at f t s =
     pick a b c d e g Ny = e
     pick a b c d e g Nz = g
 
--- its determinant is 1 where it is a mounting, and nowhere else
-abbrev agrees : Mounting → Bool
-agrees m = Bool·beq (isOne (determinantOf m)) (member m mountings)
+abbrev everywhere : (Mounting → Bool) → Bool
+everywhere test = each (λ a. each (λ b. each (λ c. test (mounting a b c))))
 
-everywhere : T (each (λ a. each (λ b. each (λ c. agrees (mounting a b c)))))
-unfolding determinantOf
-everywhere = tt
+at-triple : (test : Mounting → Bool) → T (everywhere test) → (m : Mounting) → T (test m)
+at-triple test t m =
+    let x = each-at (λ a. each (λ b. each (λ c. test (mounting a b c)))) t (m .x) in
+    let y = each-at (λ b. each (λ c. test (mounting (m .x) b c))) x (m .y) in
+    each-at (λ c. test (mounting (m .x) (m .y) c)) y (m .z)
+
+-- ---- the determinant is 1 where the triple is a mounting, and nowhere else; and there no letter is shared
+
+abbrev isOne : ℤ → Bool
+isOne (pos n) = eqb n 1
+isOne (negsuc n) = false
+
+is-one : (z : ℤ) → T (isOne z) → z ≡ pos 1
+is-one (pos n) t = ap pos (eqb→eq n 1 t)
+is-one (negsuc n) t = absurd t
+
+one-is : (z : ℤ) → z ≡ pos 1 → T (isOne z)
+one-is z e = subst (λ (y : ℤ). T (isOne y)) (sym e) tt
 
 agree : (m : Mounting) → isOne (determinantOf m) ≡ member m mountings
+unfolding determinantOf
 agree m =
-    let x = each-at (λ a. each (λ b. each (λ c. agrees (mounting a b c)))) everywhere (m .x) in
-    let y = each-at (λ b. each (λ c. agrees (mounting (m .x) b c))) x (m .y) in
-    beq-eq (isOne (determinantOf m)) (member m mountings) (each-at (λ c. agrees (mounting (m .x) (m .y) c)) y (m .z))
+    beq-eq (isOne (determinantOf m)) (member m mountings)
+    (at-triple (λ k. Bool·beq (isOne (determinantOf k)) (member k mountings)) tt m)
+
+abbrev apart : Signed → Signed → Bool
+apart s t = not (eqb (letterOf s) (letterOf t))
+
+apart-letters : (s t : Signed) → T (apart s t) → letterOf s ≡ letterOf t → ⊥
+apart-letters s t h e = T-not (eqb (letterOf s) (letterOf t)) h (subst (λ (n : ℕ). T (eqb (letterOf s) n)) e (eqb-refl (letterOf s)))
+
+abbrev shuffles : Mounting → Bool
+shuffles m = apart (m .x) (m .y) && (apart (m .y) (m .z) && apart (m .z) (m .x))
+
+shuffled : (m : Mounting) → T (isOne (determinantOf m)) → T (shuffles m)
+unfolding determinantOf
+shuffled m t = implied (isOne (determinantOf m)) (shuffles m) (at-triple (λ k. not (isOne (determinantOf k)) || shuffles k) tt m) t
+  where
+    implied : (a b : Bool) → T (not a || b) → T a → T b
+    implied true b h t = h
+    implied false b h t = absurd t
 
 -- ---- as a statement
 
@@ -142,9 +165,22 @@ number-one : (n : ℕ) → n < 24 → determinantOf (mountingOf n) ≡ pos 1
 unfolding mountingOf
 number-one n h = is-one (determinantOf (mountingOf n)) (subst T (sym (agree (mountingOf n))) (at-member mountings n h))
 
+permutation : (m : Mounting) → T (shuffles m) → Permutation m
+permutation m t =
+    let xy = apart (m .x) (m .y) in
+    let yz = apart (m .y) (m .z) in
+    let zx = apart (m .z) (m .x) in
+    let rest = and-r xy (yz && zx) t in
+    record {
+      x-y = apart-letters (m .x) (m .y) (and-l xy (yz && zx) t);
+      y-z = apart-letters (m .y) (m .z) (and-l yz zx rest);
+      z-x = apart-letters (m .z) (m .x) (and-r yz zx rest);
+    }
+
 pub all-of-determinant-one : AllOfDeterminantOne
 all-of-determinant-one =
     record {
-      all = λ m e. numbered m (member-at m mountings (subst T (agree m) (subst (λ (z : ℤ). T (isOne z)) (sym e) tt)));
+      all = λ m e. numbered m (member-at m mountings (subst T (agree m) (one-is (determinantOf m) e)));
       no-other = λ m h. sym (ap determinantOf (h .is)) ∙ number-one (h .number) (h .below);
+      permutation = λ m e. permutation m (shuffled m (one-is (determinantOf m) e));
     }

@@ -27,6 +27,16 @@ determinant a b c =
 unfoldable pub determinantOf : Mounting → ℤ
 determinantOf m = determinant (rowOf (m .x)) (rowOf (m .y)) (rowOf (m .z))
 
+-- the place of a signed axis's letter
+abbrev pub letterOf : Signed → ℕ
+letterOf s = read (λ (n : ℕ). n) 0 1 2 s
+
+-- a signed permutation: no two axes share a letter
+pub record Permutation (m : Mounting) : Type 0 where
+  pub x-y : letterOf (m .x) ≡ letterOf (m .y) → ⊥
+  pub y-z : letterOf (m .y) ≡ letterOf (m .z) → ⊥
+  pub z-x : letterOf (m .z) ≡ letterOf (m .x) → ⊥
+
 -- m is the mounting with some number
 pub record Numbered (m : Mounting) : Type 0 where
   pub number : ℕ
@@ -35,7 +45,8 @@ pub record Numbered (m : Mounting) : Type 0 where
 
 -- ---- the statement
 
--- any three signed axes are a mounting exactly when their determinant is 1; where two share a letter it is 0
+-- of any three signed axes: they are a mounting exactly when their determinant is 1, and only a signed permutation has that
 pub record AllOfDeterminantOne : Type 0 where
   pub all : (m : Mounting) → determinantOf m ≡ pos 1 → Numbered m
   pub no-other : (m : Mounting) → Numbered m → determinantOf m ≡ pos 1
+  pub permutation : (m : Mounting) → determinantOf m ≡ pos 1 → Permutation m
