@@ -1,5 +1,6 @@
 // The bench table's rows of the filter that are run, each a short story told by calls of the filter.
 use ahrs::Ahrs;
+use ahrs::Change;
 use ahrs::Settings;
 use ahrs::Started;
 use ahrs::read::FlagsRead;
@@ -136,9 +137,15 @@ pub(crate) fn lowered(fresh: Ahrs) -> Ahrs {
     change.state
 }
 
-// The lowered T after one more reading that is nonzero.
-pub(crate) fn read_again(state: Ahrs) -> Ahrs {
-    still(state, 0.0, 1.0)
+// An update, its gyroscope reading (x, 0, 0): the state after it, and the number that it answers.
+pub(crate) fn read(state: Ahrs, x: f32, accelerometer: Vector, magnetometer: Vector) -> Change {
+    let reading = state.update(Vector::new(x, 0.0, 0.0), accelerometer, magnetometer);
+    let answer = reading.answer;
+    let state = reading.state;
+    Change {
+        state,
+        number: answer.number(),
+    }
 }
 
 // The number of an update after a zero quaternion was set.

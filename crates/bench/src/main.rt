@@ -4,6 +4,8 @@ mod filter;
 mod roots;
 mod still;
 
+use ahrs::Ahrs;
+use ahrs::Change;
 use bias::Bias;
 use bias::BiasSettings;
 use bias::Started;
@@ -168,11 +170,54 @@ fn print_startup() {
     );
 }
 
-fn print_shown(name: &[u8], s: filter::Recovery) {
-    say(name);
+fn print_shown(s: filter::Recovery) {
     say(b": ratio");
     bits(s.ratio);
     told(b", recovery flag up", s.flag);
+}
+
+fn print_after(name: &[u8], change: Change) {
+    say(b"after ");
+    say(name);
+    say(b", answer ");
+    count(change.number as u64);
+    let state = change.state;
+    print_shown(filter::shown(state));
+}
+
+// A zero of its own sensor and a refused reading leave it; an accepted reading of either kind ends the ratio above 1.
+fn print_readings(lowered: Ahrs) {
+    let zero = Vector::ZERO;
+    let level = Vector::new(0.0, 0.0, 1.0);
+    let aside = Vector::new(1.0, 0.0, 0.0);
+    let none = Vector::new(0.0, 0.0, wire::float_of(0x7fc0_0000));
+    print_after(
+        b"a reading of the magnetometer alone",
+        filter::read(lowered, 0.0, zero, aside),
+    );
+    print_after(b"a NaN", filter::read(lowered, 0.0, none, zero));
+    print_after(b"a good reading", filter::read(lowered, 0.0, level, zero));
+    print_after(
+        b"a reading over the limit",
+        filter::read(lowered, 0.0, aside, zero),
+    );
+    print_after(
+        b"an overrange, and no reading",
+        filter::read(lowered, 2000.0, zero, zero),
+    );
+}
+
+// A restart ends it; of new settings it is T that does.
+fn print_changes(lowered: Ahrs) {
+    print_after(b"a restart", lowered.restart());
+    print_after(
+        b"T set to 3 again",
+        lowered.set_settings(filter::settings(10.0, 0.5, 0.3)),
+    );
+    print_after(
+        b"T set to 10",
+        lowered.set_settings(filter::settings(10.0, 0.5, 1.0)),
+    );
 }
 
 fn print_lowered() {
@@ -180,11 +225,10 @@ fn print_lowered() {
         return;
     };
     let state = filter::lowered(fresh);
-    print_shown(b"T lowered from 10 to 3 at trigger 5", filter::shown(state));
-    print_shown(
-        b"and after the next reading",
-        filter::shown(filter::read_again(state)),
-    );
+    say(b"T lowered from 10 to 3 at trigger 5");
+    print_shown(filter::shown(state));
+    print_readings(state);
+    print_changes(state);
     say(b"zero quaternion set, then update:");
     refused(filter::after_zero_quaternion(fresh));
     say(b"\n");
