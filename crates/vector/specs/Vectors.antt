@@ -15,6 +15,9 @@ vector x y z = record { x = x; y = y; z = z }
 abbrev pub zeroVector : Vector
 zeroVector = vector zero zero zero
 
+abbrev pub onesVector : Vector
+onesVector = vector one one one
+
 unfoldable pub finiteVector : Vector → Bool
 finiteVector v = finite (v .x) && finite (v .y) && finite (v .z)
 

@@ -2,7 +2,7 @@
 pub mod turned; // turned.rt: a vector turned by a mounting, which alone refuses
 
 ghost use mathlib.Core.Path.{_≡_};
-ghost use Rattle.vector.specs.Vectors.{vector, finiteVector, eqOf, isZeroOf, exceedsOf, sumOf, hadamardOf, dotOf, crossOf, normSquaredOf, normOf, normalizeOf, addOf, subOf, negOf, mulOf, fromArrayOf, toArrayOf};
+ghost use Rattle.vector.specs.Vectors.{vector, onesVector, finiteVector, eqOf, isZeroOf, exceedsOf, sumOf, hadamardOf, dotOf, crossOf, normSquaredOf, normOf, normalizeOf, addOf, subOf, negOf, mulOf, fromArrayOf, toArrayOf};
 
 pub struct Vector {
     pub x: f32,
@@ -22,6 +22,13 @@ impl Vector {
         y: 1.0,
         z: 1.0,
     };
+
+    // No other function gives the constant, so that its value is promised here.
+    pub fn ones() -> Vector
+        ensures { λ r. ⌜ r ≡ onesVector ⌝ }
+    {
+        Vector::ONES
+    }
 
     pub fn new(x: f32, y: f32, z: f32) -> Vector
         ensures { λ r. ⌜ r ≡ vector x y z ⌝ }
