@@ -4,10 +4,24 @@ use mathlib.Core.List.{List, [], _∷_}
 use Prim.Native.Nat.{ℕ}
 use lib.ListN.{getD}
 use lib.Ieee.{Float, nan, eq}
-use Rattle.number.specs.Float32.{_⊕_, _⊗_}
+use Rattle.number.specs.Float32.{_⊕_, _⊗_, zero, one}
 use Rattle.vector.specs.declared.Vector.{Vector}
 use Rattle.math.specs.declared.matrix.Matrix.{Matrix}
 use Rattle.vector.specs.Vectors.{vector}
+
+abbrev pub identityMatrix : Matrix
+identityMatrix =
+    record {
+      xx = one;
+      xy = zero;
+      xz = zero;
+      yx = zero;
+      yy = one;
+      yz = zero;
+      zx = zero;
+      zy = zero;
+      zz = one;
+    }
 
 abbrev pub eqOf : Matrix → Matrix → Bool
 eqOf m n =

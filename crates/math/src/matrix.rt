@@ -1,7 +1,7 @@
 // A 3 by 3 matrix of f32, rows first: the Rust's math/matrix.rs. A field's name is its row and then its column.
 use vector::Vector;
 ghost use mathlib.Core.Path.{_≡_};
-ghost use Rattle.math.specs.Matrices.{eqOf, fromRowsOf, toRowsOf, transposeOf, mulOf, mulVectorOf};
+ghost use Rattle.math.specs.Matrices.{identityMatrix, eqOf, fromRowsOf, toRowsOf, transposeOf, mulOf, mulVectorOf};
 
 pub struct Matrix {
     pub xx: f32,
@@ -27,6 +27,13 @@ impl Matrix {
         zy: 0.0,
         zz: 1.0,
     };
+
+    // No other function gives the constant, so that its value is promised here.
+    pub fn identity() -> Matrix
+        ensures { λ r. ⌜ r ≡ identityMatrix ⌝ }
+    {
+        Matrix::IDENTITY
+    }
 
     // The Rust's `==`, element by element.
     pub fn eq(self, rhs: Matrix) -> bool
