@@ -6,4 +6,5 @@ pub mod Unsigned
 pub mod Signed
 pub mod Quotient
 pub mod Range
+pub mod Apart
 mod Wrong
