@@ -1,1 +1,2 @@
 pub mod Shows
+mod Wrong
