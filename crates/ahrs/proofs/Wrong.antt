@@ -96,12 +96,17 @@ pub of-start
 unfolding refusalOf finiteSettings lt ofBits
 of-start = (λ h. let z : _≡_ {A = ℕ} 0 6 = h .number in omega arith, λ h. let z : _≡_ {A = ℕ} 5 4 = h .number in omega arith)
 
--- a convention of 3 taken; a NaN found only in the answer
+-- of `update`, and of `update_lent`, whose promise is the same: a convention of 3 taken; refused, and restarted all the same; a NaN found only in the answer
 pub of-update
     : (Updates (at-start 3) still still still (record { state = at-start 3; answer = Oriented one nought nought nought }) → ⊥)
+    × (Updates (at-start 3) still still still (record { state = restartedOf (at-start 3); answer = Refused 4 }) → ⊥)
     × (Updates (at-start 0) still still (vector nan nought nought) (record { state = at-start 0; answer = Refused 7 }) → ⊥)
-unfolding refusalOf finiteState finiteSettings finiteConfig finiteQuaternion finiteVector finiteRejection
-of-update = (λ h. let z : _≡_ {A = ℕ} 0 4 = h .answer .number in omega arith, λ h. let z : _≡_ {A = ℕ} 7 5 = h .answer .number in omega arith)
+unfolding refusalOf finiteState finiteSettings finiteConfig finiteQuaternion finiteVector finiteRejection freshOf resetOf
+of-update = (
+  λ h. let z : _≡_ {A = ℕ} 0 4 = h .answer .number in omega arith,
+  λ h. let z : _≡_ {A = ℕ} 0 2 = ap trigger (h .state) in omega arith,
+  λ h. let z : _≡_ {A = ℕ} 7 5 = h .answer .number in omega arith,
+)
 
 -- a restart that keeps the triggers; one of a state that is refused
 pub of-restart
