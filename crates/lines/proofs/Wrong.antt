@@ -3,7 +3,7 @@ use Prim.Native.Nat.{ℕ}
 use native.Mathlib.Omega.{arith}
 use mathlib.Core.Path.{_≡_, ap}
 use mathlib.Core.List.{List, [], _∷_}
-use lib.ListN.{replicate}
+use lib.ListN.{replicate, getD}
 use Rattle.answer.specs.Refusals.{refusalOf}
 use Rattle.text.specs.Text.{refusedOf}
 use Rattle.lines.specs.declared.Line.{Line}
@@ -17,6 +17,14 @@ blank = replicate 10 0
 
 abbrev fed : Line → ℕ → ℕ → Fed
 fed l n k = record { line = l; n = n; refusal = k }
+
+-- a byte that never came; bytes that are not zero
+pub of-fresh : (line 1 (replicate 13 0) ≡ freshLine → ⊥) × (line 0 (replicate 13 43) ≡ freshLine → ⊥)
+unfolding freshLine
+of-fresh = (
+  λ h. let z : _≡_ {A = ℕ} 1 0 = ap (λ (l : Line). l .n) h in omega arith,
+  λ h. let z : _≡_ {A = ℕ} 43 0 = ap (λ (l : Line). getD (l .text) 0 0) h in omega arith,
+)
 
 -- of `+`: refused where there is room, the line untouched; of a newline: nothing printed
 pub of-feed
