@@ -2,7 +2,8 @@
 pub mod turned; // turned.rt: a vector turned by a mounting, which alone refuses
 
 ghost use mathlib.Core.Path.{_≡_};
-ghost use Rattle.vector.specs.Vectors.{vector, onesVector, finiteVector, eqOf, isZeroOf, exceedsOf, sumOf, hadamardOf, dotOf, crossOf, normSquaredOf, normOf, normalizeOf, addOf, subOf, negOf, mulOf, fromArrayOf, toArrayOf};
+ghost use Rattle.vector.specs.Vectors.{vector, onesVector, finiteVector, eqOf, isZeroOf, exceedsOf, sumOf, hadamardOf, dotOf, crossOf};
+ghost use Rattle.vector.specs.Vectors.{normSquaredOf, normOf, normalizeOf, addOf, subOf, negOf, mulOf, fromArrayOf, toArrayOf};
 
 pub struct Vector {
     pub x: f32,
