@@ -185,7 +185,7 @@ fn print_after(name: &[u8], change: Change) {
     print_shown(filter::shown(state));
 }
 
-// A zero of its own sensor and a refused reading leave it; an accepted reading of either kind ends the ratio above 1.
+// A zero of its own sensor and a refused reading leave it; a reading that is accepted, be it over the limit, and an overrange end the ratio above 1.
 fn print_readings(lowered: Ahrs) {
     let zero = Vector::ZERO;
     let level = Vector::new(0.0, 0.0, 1.0);
