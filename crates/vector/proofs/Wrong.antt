@@ -5,7 +5,7 @@ use mathlib.Core.Path.{_≡_, refl}
 use mathlib.Core.Bool.{true, false, true≢false, false≢true}
 use mathlib.Core.List.{List, [], _∷_}
 use lib.Count.{leadingZeros}
-use lib.IntN.{pos, negsuc}
+use lib.IntN.{ℤ, pos, negsuc}
 use lib.ListN.{getD}
 use lib.Ieee.{Float, nan, inf, fin, ofBits, toBits, eq, lt, add, sub, mul, div, neg, sum, round, units, odd}
 use Rattle.answer.specs.declared.Answer.the-variants.{Refused}
@@ -17,7 +17,8 @@ use Rattle.root.specs.Root.{floorRoot, nearestRootOf, significandOf, exponentOf
 use Rattle.vector.specs.declared.Vector.{Vector}
 use Rattle.vector.specs.Vectors.{vector, zeroVector, onesVector, finiteVector, eqOf, isZeroOf, exceedsOf, sumOf, hadamardOf, dotOf, crossOf}
 use Rattle.vector.specs.Vectors.{normSquaredOf, normOf, normalizeOf, addOf, subOf, negOf, mulOf, fromArrayOf, toArrayOf}
-use Rattle.vector.specs.Mounting.{mountingOf, turnOf}
+use Rattle.vector.specs.Mounting.{Px, Py, Pz, Nx, Ny, mounting, mountingOf, turnOf}
+use Rattle.vector.specs.Determinant.{determinantOf}
 use Rattle.vector.specs.Turned.{turnChecks, turnedAnswer}
 
 abbrev nought : Float
@@ -186,3 +187,16 @@ of-turned = (
   λ h. let e = h .exact in let z : _≡_ {A = ℕ} 0 1 = cc in omega arith,
   λ h. let e = h .exact in let z : _≡_ {A = ℕ} 0 1 = cc in omega arith,
 )
+
+-- a whole number's size, 0 for one below
+abbrev above : ℤ → ℕ
+above (pos n) = n
+above (negsuc n) = 0
+
+-- determinant 1 of a mirrored triple, and of one that repeats a letter; minus one of two signs turned
+pub of-determinant
+    : (pos 1 ≡ determinantOf (mounting Nx Py Pz) → ⊥)
+    × (pos 1 ≡ determinantOf (mounting Px Px Pz) → ⊥)
+    × (negsuc 0 ≡ determinantOf (mounting Nx Ny Pz) → ⊥)
+unfolding determinantOf
+of-determinant = (λ h. apart above h refl, λ h. apart above h refl, λ h. apart above h refl)
