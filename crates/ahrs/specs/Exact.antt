@@ -3,14 +3,15 @@ use lib.Ieee.{Float}
 use Rattle.answer.specs.Refusals.{Exactly}
 use Rattle.vector.specs.declared.Vector.{Vector}
 use Rattle.math.specs.declared.quaternion.Quaternion.{Quaternion}
-use Rattle.step.specs.declared.Settings.{Settings}
+use Rattle.settings.specs.declared.Settings.{Settings}
 use Rattle.ahrs.specs.declared.Ahrs.{Ahrs}
-use Rattle.ahrs.specs.Calls.{startChecks, updateChecks, stateChecks, settingsChecks, periodChecks, quaternionChecks, vectorChecks}
+use Rattle.settings.specs.Config.{settingsChecks}
+use Rattle.ahrs.specs.Calls.{updateChecks, stateChecks, changeChecks, periodChecks, quaternionChecks, vectorChecks}
 
 pub record ExactlyWhen : Type 0 where
-  pub start : (t : Settings) → Exactly (startChecks t)
+  pub start : (t : Settings) → Exactly (settingsChecks t)
   pub update : (s : Ahrs) (g a m : Vector) → Exactly (updateChecks s g a m)
-  pub set-settings : (s : Ahrs) (t : Settings) → Exactly (settingsChecks s t)
+  pub set-settings : (s : Ahrs) (t : Settings) → Exactly (changeChecks s t)
   pub set-sample-period : (s : Ahrs) (period : Float) → Exactly (periodChecks s period)
   pub set-quaternion : (s : Ahrs) (q : Quaternion) → Exactly (quaternionChecks s q)
   -- restart, skip_startup, settings, quaternion, flags and internal_states

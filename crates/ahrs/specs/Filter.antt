@@ -9,15 +9,15 @@ use Rattle.math.specs.declared.quaternion.Quaternion.{Quaternion}
 use Rattle.vector.specs.Vectors.{zeroVector, finiteVector, addOf, mulOf}
 use Rattle.math.specs.Quaternions as quaternion
 use Rattle.math.specs.Quaternions.{finiteQuaternion}
-use Rattle.step.specs.declared.Settings.{Settings}
-use Rattle.step.specs.declared.config.Config.{Config}
+use Rattle.settings.specs.declared.Settings.{Settings}
+use Rattle.settings.specs.declared.config.Config.{Config}
 use Rattle.step.specs.declared.Rejection.{Rejection}
-use Rattle.step.specs.Config.{initialGain, finiteSettings, finiteConfig, firesOf}
-use Rattle.step.specs.Sensor.{resetOf, inclinationOf, headingOf, finiteRejection}
+use Rattle.settings.specs.Config.{initialGain, finiteSettings, finiteConfig, firesOf}
+use Rattle.step.specs.Sensor.{resetOf, halfInclinationFeedbackOf, halfHeadingFeedbackOf, finiteRejection}
 use Rattle.step.specs.Direction.{halfGravityOf, halfWestOf}
-use Rattle.step.specs.Rate.{rampedOf, rateOf, integratedOf}
+use Rattle.step.specs.Rate.{startupGainOf, rateOf, integratedOf}
 use Rattle.ahrs.specs.declared.Ahrs.{Ahrs}
-use Rattle.ahrs.specs.declared.update.Judged.{Judged}
+use Rattle.ahrs.specs.declared.update.HalfFeedback.{HalfFeedback}
 
 -- ---- a state's floats
 
@@ -46,6 +46,35 @@ freshOf s c =
 abbrev pub restartedOf : Ahrs → Ahrs
 restartedOf s = freshOf (s .settings) (s .config)
 
+-- ---- a state with one of its parts changed, and the rest as it was
+
+abbrev ahrs : Settings → Config → Quaternion → Vector → Bool → Float → Bool → Rejection → Rejection → Ahrs
+ahrs t c q a startup gain recovery acceleration magnetic =
+    record {
+      settings = t;
+      config = c;
+      quaternion = q;
+      accelerometer = a;
+      startup = startup;
+      «startup_gain» = gain;
+      «overrange_recovery» = recovery;
+      acceleration = acceleration;
+      magnetic = magnetic;
+    }
+
+abbrev given : Ahrs → Settings → Config → Ahrs
+given s t c = ahrs t c (s .quaternion) (s .accelerometer) (s .startup) (s .«startup_gain») (s .«overrange_recovery») (s .acceleration) (s .magnetic)
+
+abbrev starting : Ahrs → Bool → Float → Bool → Ahrs
+starting s on gain recovery = ahrs (s .settings) (s .config) (s .quaternion) (s .accelerometer) on gain recovery (s .acceleration) (s .magnetic)
+
+abbrev rejecting : Ahrs → Rejection → Rejection → Ahrs
+rejecting s a m = ahrs (s .settings) (s .config) (s .quaternion) (s .accelerometer) (s .startup) (s .«startup_gain») (s .«overrange_recovery») a m
+
+unfoldable pub withQuaternion : Ahrs → Quaternion → Ahrs
+withQuaternion s q =
+    ahrs (s .settings) (s .config) q (s .accelerometer) (s .startup) (s .«startup_gain») (s .«overrange_recovery») (s .acceleration) (s .magnetic)
+
 unfoldable pub withThreshold : Rejection → ℤ → Rejection
 withThreshold r timeout =
     record {
@@ -57,121 +86,66 @@ withThreshold r timeout =
 
 -- a settings change sets both thresholds to the new T
 unfoldable pub withSettings : Ahrs → Settings → Config → Ahrs
-withSettings s settings config =
+withSettings s t c = rejecting (given s t c) (withThreshold (s .acceleration) (c .«rejection_timeout»)) (withThreshold (s .magnetic) (c .«rejection_timeout»))
+
+abbrev withPeriod : Config → Float → Config
+withPeriod c period =
     record {
-      settings = settings;
-      config = config;
-      quaternion = s .quaternion;
-      accelerometer = s .accelerometer;
-      startup = s .startup;
-      «startup_gain» = s .«startup_gain»;
-      «overrange_recovery» = s .«overrange_recovery»;
-      acceleration = withThreshold (s .acceleration) (config .«rejection_timeout»);
-      magnetic = withThreshold (s .magnetic) (config .«rejection_timeout»);
+      «sample_period» = period;
+      gain = c .gain;
+      «startup_gain_rate» = c .«startup_gain_rate»;
+      «overrange_enabled» = c .«overrange_enabled»;
+      «overrange_threshold» = c .«overrange_threshold»;
+      «acceleration_rejection» = c .«acceleration_rejection»;
+      «magnetic_rejection» = c .«magnetic_rejection»;
+      «rejection_timeout» = c .«rejection_timeout»;
     }
 
 -- the rate of fall is left
 unfoldable pub withSamplePeriod : Ahrs → Float → Ahrs
-withSamplePeriod s period =
-    record {
-      settings = s .settings;
-      config =
-          record {
-            «sample_period» = period;
-            gain = s .config .gain;
-            «startup_gain_rate» = s .config .«startup_gain_rate»;
-            «overrange_enabled» = s .config .«overrange_enabled»;
-            «overrange_threshold» = s .config .«overrange_threshold»;
-            «acceleration_rejection» = s .config .«acceleration_rejection»;
-            «magnetic_rejection» = s .config .«magnetic_rejection»;
-            «rejection_timeout» = s .config .«rejection_timeout»;
-          };
-      quaternion = s .quaternion;
-      accelerometer = s .accelerometer;
-      startup = s .startup;
-      «startup_gain» = s .«startup_gain»;
-      «overrange_recovery» = s .«overrange_recovery»;
-      acceleration = s .acceleration;
-      magnetic = s .magnetic;
-    }
-
-unfoldable pub withQuaternion : Ahrs → Quaternion → Ahrs
-withQuaternion s q =
-    record {
-      settings = s .settings;
-      config = s .config;
-      quaternion = q;
-      accelerometer = s .accelerometer;
-      startup = s .startup;
-      «startup_gain» = s .«startup_gain»;
-      «overrange_recovery» = s .«overrange_recovery»;
-      acceleration = s .acceleration;
-      magnetic = s .magnetic;
-    }
+withSamplePeriod s period = given s (s .settings) (withPeriod (s .config) period)
 
 unfoldable pub skippedStartup : Ahrs → Ahrs
-skippedStartup s =
-    record {
-      settings = s .settings;
-      config = s .config;
-      quaternion = s .quaternion;
-      accelerometer = s .accelerometer;
-      startup = false;
-      «startup_gain» = s .«startup_gain»;
-      «overrange_recovery» = false;
-      acceleration = s .acceleration;
-      magnetic = s .magnetic;
-    }
+skippedStartup s = starting s false (s .«startup_gain») false
 
 -- ---- overrange
 
 -- it restarts all but quaternion and accelerometer, and raises its flag
 abbrev pub softRestartedOf : Ahrs → Ahrs
-softRestartedOf s =
-    record {
-      settings = s .settings;
-      config = s .config;
-      quaternion = s .quaternion;
-      accelerometer = s .accelerometer;
-      startup = true;
-      «startup_gain» = initialGain;
-      «overrange_recovery» = true;
-      acceleration = resetOf (s .config .«rejection_timeout»);
-      magnetic = resetOf (s .config .«rejection_timeout»);
-    }
+softRestartedOf s = rejecting (starting s true initialGain true) (resetOf (s .config .«rejection_timeout»)) (resetOf (s .config .«rejection_timeout»))
 
 unfoldable pub overrangeOf : Ahrs → Vector → Ahrs
 overrangeOf s g = cond (firesOf (s .config) g) (softRestartedOf s) s
 
 -- ---- one update, before any refusal
 
--- both sensors' steps; neither reads what the other gives
-unfoldable pub judgedOf : Ahrs → Vector → Vector → Bool → Judged
-judgedOf s accelerometer magnetometer startup =
+-- both sensors' feedback; neither reads what the other gives
+unfoldable pub halfFeedbackOf : Ahrs → Vector → Vector → Bool → HalfFeedback
+halfFeedbackOf s accelerometer magnetometer startup =
     let gravity = halfGravityOf (s .settings .convention) (s .quaternion) in
     let west = halfWestOf (s .settings .convention) (s .quaternion) in
-    let inclination = inclinationOf (s .acceleration) gravity accelerometer startup (s .config) in
-    let heading = headingOf (s .magnetic) gravity west magnetometer startup (s .config) in
+    let inclination = halfInclinationFeedbackOf (s .acceleration) gravity accelerometer startup (s .config) in
+    let heading = halfHeadingFeedbackOf (s .magnetic) gravity west magnetometer startup (s .config) in
     record {
       acceleration = inclination .rejection;
       magnetic = heading .rejection;
       «half_feedback» = addOf (inclination .«half_feedback») (heading .«half_feedback»);
     }
 
-unfoldable pub steppedOf : Ahrs → Vector → Vector → Vector → Ahrs
-steppedOf s gyroscope accelerometer magnetometer =
+unfoldable pub updatedOf : Ahrs → Vector → Vector → Vector → Ahrs
+updatedOf s gyroscope accelerometer magnetometer =
     let now = overrangeOf s gyroscope in
-    let ramped = rampedOf (now .config) (now .startup) (now .«startup_gain») (now .«overrange_recovery») in
-    let judged = judgedOf now accelerometer magnetometer (ramped .startup) in
-    let rate = rateOf gyroscope (judged .«half_feedback») (ramped .gain) in
+    let startup = startupGainOf (now .config) (now .startup) (now .«startup_gain») (now .«overrange_recovery») in
+    let feedback = halfFeedbackOf now accelerometer magnetometer (startup .startup) in
+    let rate = rateOf gyroscope (feedback .«half_feedback») (startup .gain) in
     record {
       settings = now .settings;
       config = now .config;
       quaternion = integratedOf (now .quaternion) (mulOf rate (now .config .«sample_period»));
       accelerometer = accelerometer;
-      startup = ramped .startup;
-      «startup_gain» = ramped .«startup_gain»;
-      «overrange_recovery» = ramped .«overrange_recovery»;
-      acceleration = judged .acceleration;
-      magnetic = judged .magnetic;
+      startup = startup .startup;
+      «startup_gain» = startup .«startup_gain»;
+      «overrange_recovery» = startup .«overrange_recovery»;
+      acceleration = feedback .acceleration;
+      magnetic = feedback .magnetic;
     }

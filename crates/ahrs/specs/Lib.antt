@@ -1,7 +1,6 @@
 pub mod Filter
 pub mod Read
 pub mod Calls
+pub mod Inner
 pub mod Exact
 pub mod Determined
-pub mod Runs
-pub mod Reached

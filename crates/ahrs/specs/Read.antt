@@ -6,7 +6,7 @@ use Rattle.number.specs.Float32.{_⊕_, _⊖_, _⊗_, one, two}
 use Rattle.vector.specs.declared.Vector.{Vector}
 use Rattle.math.specs.declared.quaternion.Quaternion.{Quaternion}
 use Rattle.vector.specs.Vectors.{vector, dotOf, subOf, mulOf}
-use Rattle.rejection.specs.Step.{recoveryOf}
+use Rattle.rejection.specs.Counts.{recoveryOf}
 use Rattle.ahrs.specs.declared.Ahrs.{Ahrs}
 use Rattle.ahrs.specs.declared.read.Flags.{Flags}
 use Rattle.ahrs.specs.declared.read.InternalStates.{InternalStates}
@@ -21,8 +21,8 @@ unfoldable pub linearOf : Ahrs → Vector
 linearOf s = subOf (s .accelerometer) (gravityOf s)
 
 -- a vector from the sensor's frame to the Earth's: twice its product with each row of half the rotation matrix
-unfoldable pub turnedOf : Quaternion → Vector → Vector
-turnedOf q a =
+unfoldable pub earthFrameOf : Quaternion → Vector → Vector
+earthFrameOf q a =
     vector
     (two ⊗ dotOf (vector (q .w ⊗ q .w ⊖ half ⊕ q .x ⊗ q .x) (q .x ⊗ q .y ⊖ q .w ⊗ q .z) (q .x ⊗ q .z ⊕ q .w ⊗ q .y)) a)
     (two ⊗ dotOf (vector (q .x ⊗ q .y ⊕ q .w ⊗ q .z) (q .w ⊗ q .w ⊖ half ⊕ q .y ⊗ q .y) (q .y ⊗ q .z ⊖ q .w ⊗ q .x)) a)
@@ -34,7 +34,7 @@ withoutGravity convention v =
     cond (eqb convention 2) (vector (v .x) (v .y) (v .z ⊕ one)) (vector (v .x) (v .y) (v .z ⊖ one))
 
 unfoldable pub earthOf : Ahrs → Vector
-earthOf s = withoutGravity (s .settings .convention) (turnedOf (s .quaternion) (s .accelerometer))
+earthOf s = withoutGravity (s .settings .convention) (earthFrameOf (s .quaternion) (s .accelerometer))
 
 unfoldable pub flagsOf : Ahrs → Flags
 flagsOf s =

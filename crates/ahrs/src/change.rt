@@ -1,14 +1,16 @@
 // A start, a restart, and the calls that set something.
 use super::Ahrs;
 use math::Quaternion;
-use step::Config;
+use settings::Config;
+use settings::Settings;
+use settings::config::INITIAL_STARTUP_GAIN;
 use step::Rejection;
-use step::Settings;
-use step::config::INITIAL_STARTUP_GAIN;
 use vector::Vector;
 ghost use mathlib.Core.Path.{_≡_};
+ghost use Rattle.answer.specs.Refusals.{refusalOf};
 ghost use Rattle.ahrs.specs.Filter.{freshOf, withThreshold, withSettings};
-ghost use Rattle.ahrs.specs.Calls.{Starts, Restarts, SkipsStartup, SetsSettings, SetsSamplePeriod, SetsQuaternion};
+ghost use Rattle.ahrs.specs.Calls.{Starts, Restarts, SkipsStartup};
+ghost use Rattle.ahrs.specs.Calls.{changeChecks, SetsSettings, periodChecks, SetsSamplePeriod, quaternionChecks, SetsQuaternion};
 
 // A start: the fresh state, or a refusal's number.
 pub enum Started {
@@ -23,7 +25,7 @@ pub struct Change {
 }
 
 // A settings change sets the threshold to the new timeout, and keeps the trigger.
-fn rethreshold(rejection: Rejection, timeout: i32) -> Rejection
+fn with_threshold(rejection: Rejection, timeout: i32) -> Rejection
     ensures { λ r. ⌜ r ≡ withThreshold rejection timeout ⌝ }
 {
     let mut next = rejection;
@@ -55,39 +57,25 @@ impl Ahrs {
     pub fn with_settings(settings: Settings) -> Started
         ensures { λ r. ⌜ Starts settings r ⌝ }
     {
-        if !settings.is_known() {
-            return Started::Refused(4);
+        let number = settings.refusal();
+        if number != 0 {
+            return Started::Refused(number);
         }
-        if !settings.is_finite() {
-            return Started::Refused(5);
-        }
-        if !settings.is_sound() {
-            return Started::Refused(6);
-        }
-        let config = settings.derived();
-        if !config.is_finite() {
-            return Started::Refused(7);
-        }
-        Started::Fresh(Ahrs::fresh(settings, config))
+        Started::Fresh(Ahrs::fresh(settings, settings.derived()))
     }
 
     // As fresh, but with the settings and what they derive kept.
     pub fn restart(self) -> Change
         ensures { λ r. ⌜ Restarts self r ⌝ }
     {
+        let number = self.refusal();
+        if number != 0 {
+            return Change {
+                state: self,
+                number,
+            };
+        }
         let settings = self.settings;
-        if !settings.is_known() {
-            return Change {
-                state: self,
-                number: 4,
-            };
-        }
-        if !self.is_finite() {
-            return Change {
-                state: self,
-                number: 5,
-            };
-        }
         let config = self.config;
         let state = Ahrs::fresh(settings, config);
         Change { state, number: 0 }
@@ -96,17 +84,11 @@ impl Ahrs {
     pub fn skip_startup(self) -> Change
         ensures { λ r. ⌜ SkipsStartup self r ⌝ }
     {
-        let settings = self.settings;
-        if !settings.is_known() {
+        let number = self.refusal();
+        if number != 0 {
             return Change {
                 state: self,
-                number: 4,
-            };
-        }
-        if !self.is_finite() {
-            return Change {
-                state: self,
-                number: 5,
+                number,
             };
         }
         let mut state = self;
@@ -116,11 +98,11 @@ impl Ahrs {
     }
 
     // Other settings and what they derive: both thresholds become the new timeout, and the triggers stay.
-    fn resettled(self, settings: Settings, config: Config) -> Ahrs
+    fn apply_settings(self, settings: Settings, config: Config) -> Ahrs
         ensures { λ r. ⌜ r ≡ withSettings self settings config ⌝ }
     {
-        let acceleration = rethreshold(self.acceleration, config.rejection_timeout);
-        let magnetic = rethreshold(self.magnetic, config.rejection_timeout);
+        let acceleration = with_threshold(self.acceleration, config.rejection_timeout);
+        let magnetic = with_threshold(self.magnetic, config.rejection_timeout);
         let mut next = self;
         next.settings = settings;
         next.config = config;
@@ -129,60 +111,59 @@ impl Ahrs {
         next
     }
 
-    pub fn set_settings(self, settings: Settings) -> Change
-        ensures { λ r. ⌜ SetsSettings self settings r ⌝ }
+    // The number of a settings change: 4 and 5 are of both, 6 and 7 of the new settings alone.
+    fn settings_refusal(self, settings: Settings) -> u8
+        ensures { λ r. ⌜ r ≡ refusalOf (changeChecks self settings) ⌝ }
     {
         let old = self.settings;
         if !(old.is_known() & settings.is_known()) {
-            return Change {
-                state: self,
-                number: 4,
-            };
+            return 4;
         }
         if !(self.is_finite() & settings.is_finite()) {
+            return 5;
+        }
+        settings.refusal()
+    }
+
+    pub fn set_settings(self, settings: Settings) -> Change
+        ensures { λ r. ⌜ SetsSettings self settings r ⌝ }
+    {
+        let number = self.settings_refusal(settings);
+        if number != 0 {
             return Change {
                 state: self,
-                number: 5,
+                number,
             };
         }
-        if !settings.is_sound() {
-            return Change {
-                state: self,
-                number: 6,
-            };
-        }
-        let config = settings.derived();
-        if !config.is_finite() {
-            return Change {
-                state: self,
-                number: 7,
-            };
-        }
-        let state = self.resettled(settings, config);
+        let state = self.apply_settings(settings, settings.derived());
         Change { state, number: 0 }
+    }
+
+    fn sample_period_refusal(self, sample_period: f32) -> u8
+        ensures { λ r. ⌜ r ≡ refusalOf (periodChecks self «sample_period») ⌝ }
+    {
+        let settings = self.settings;
+        if !settings.is_known() {
+            return 4;
+        }
+        if !(self.is_finite() & number::is_finite(sample_period)) {
+            return 5;
+        }
+        if !(sample_period > 0.0) {
+            return 6;
+        }
+        0
     }
 
     // The sample period alone: the rate at which the startup gain falls is left.
     pub fn set_sample_period(self, sample_period: f32) -> Change
         ensures { λ r. ⌜ SetsSamplePeriod self «sample_period» r ⌝ }
     {
-        let settings = self.settings;
-        if !settings.is_known() {
+        let number = self.sample_period_refusal(sample_period);
+        if number != 0 {
             return Change {
                 state: self,
-                number: 4,
-            };
-        }
-        if !(self.is_finite() & number::is_finite(sample_period)) {
-            return Change {
-                state: self,
-                number: 5,
-            };
-        }
-        if !(sample_period > 0.0) {
-            return Change {
-                state: self,
-                number: 6,
+                number,
             };
         }
         let mut config = self.config;
@@ -192,20 +173,27 @@ impl Ahrs {
         Change { state, number: 0 }
     }
 
-    pub fn set_quaternion(self, quaternion: Quaternion) -> Change
-        ensures { λ r. ⌜ SetsQuaternion self quaternion r ⌝ }
+    fn quaternion_refusal(self, quaternion: Quaternion) -> u8
+        ensures { λ r. ⌜ r ≡ refusalOf (quaternionChecks self quaternion) ⌝ }
     {
         let settings = self.settings;
         if !settings.is_known() {
-            return Change {
-                state: self,
-                number: 4,
-            };
+            return 4;
         }
         if !(self.is_finite() & quaternion.is_finite()) {
+            return 5;
+        }
+        0
+    }
+
+    pub fn set_quaternion(self, quaternion: Quaternion) -> Change
+        ensures { λ r. ⌜ SetsQuaternion self quaternion r ⌝ }
+    {
+        let number = self.quaternion_refusal(quaternion);
+        if number != 0 {
             return Change {
                 state: self,
-                number: 5,
+                number,
             };
         }
         let mut state = self;

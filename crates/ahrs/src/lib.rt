@@ -3,7 +3,9 @@ use answer::Answer;
 use math::Quaternion;
 use vector::Vector;
 ghost use mathlib.Core.Path.{_≡_};
+ghost use Rattle.answer.specs.Refusals.{refusalOf};
 ghost use Rattle.ahrs.specs.Filter.{finiteState};
+ghost use Rattle.ahrs.specs.Calls.{stateChecks};
 
 pub mod change; // change.rt: start, restart, and the calls that set something
 pub mod lent; // lent.rt: update_lent
@@ -13,9 +15,9 @@ pub mod update; // update.rt: one update
 pub use change::Change;
 pub use change::Started;
 pub use lent::update_lent;
-pub use step::Config;
+pub use settings::Config;
+pub use settings::Settings;
 pub use step::Rejection;
-pub use step::Settings;
 
 pub struct Ahrs {
     pub settings: Settings,
@@ -52,5 +54,19 @@ impl Ahrs {
             & number::is_finite(self.startup_gain)
             & acceleration.is_finite()
             & magnetic.is_finite()
+    }
+
+    // The number of a state that is handed in: 4, 5, or 0 where it is sound.
+    pub(crate) fn refusal(self) -> u8
+        ensures { λ r. ⌜ r ≡ refusalOf (stateChecks self) ⌝ }
+    {
+        let settings = self.settings;
+        if !settings.is_known() {
+            return 4;
+        }
+        if !self.is_finite() {
+            return 5;
+        }
+        0
     }
 }

@@ -1,12 +1,13 @@
 // Calls that only read the state: what they read, or a refusal's number.
 use super::Ahrs;
 use math::Quaternion;
-use step::Settings;
-use step::direction::half_gravity;
+use settings::Settings;
+use step::direction::calculate_half_gravity;
 use vector::Vector;
 ghost use mathlib.Core.Path.{_≡_};
-ghost use Rattle.ahrs.specs.Read.{gravityOf, linearOf, turnedOf, withoutGravity, earthOf};
-ghost use Rattle.ahrs.specs.Calls.{SettingsReads, QuaternionReads, VectorReads, FlagsReads, StatesReads};
+ghost use Rattle.answer.specs.Refusals.{refusalOf};
+ghost use Rattle.ahrs.specs.Read.{gravityOf, linearOf, earthFrameOf, withoutGravity, earthOf};
+ghost use Rattle.ahrs.specs.Calls.{SettingsReads, QuaternionReads, vectorChecks, VectorReads, FlagsReads, StatesReads};
 
 pub enum SettingsRead {
     Read(Settings),
@@ -49,8 +50,8 @@ pub enum StatesRead {
 }
 
 // A vector from the sensor's frame to the Earth's: each axis by half a row of the rotation matrix.
-fn turned(q: Quaternion, a: Vector) -> Vector
-    ensures { λ r. ⌜ r ≡ turnedOf q a ⌝ }
+fn earth_frame(q: Quaternion, a: Vector) -> Vector
+    ensures { λ r. ⌜ r ≡ earthFrameOf q a ⌝ }
 {
     let x = Vector {
         x: q.w * q.w - 0.5 + q.x * q.x,
@@ -96,43 +97,45 @@ impl Ahrs {
     pub fn settings(self) -> SettingsRead
         ensures { λ r. ⌜ SettingsReads self r ⌝ }
     {
+        let number = self.refusal();
+        if number != 0 {
+            return SettingsRead::Refused(number);
+        }
         let settings = self.settings;
-        if !settings.is_known() {
-            return SettingsRead::Refused(4);
-        }
-        if !self.is_finite() {
-            return SettingsRead::Refused(5);
-        }
         SettingsRead::Read(settings)
     }
 
     pub fn quaternion(self) -> QuaternionRead
         ensures { λ r. ⌜ QuaternionReads self r ⌝ }
     {
-        let settings = self.settings;
-        if !settings.is_known() {
-            return QuaternionRead::Refused(4);
-        }
-        if !self.is_finite() {
-            return QuaternionRead::Refused(5);
+        let number = self.refusal();
+        if number != 0 {
+            return QuaternionRead::Refused(number);
         }
         let quaternion = self.quaternion;
         QuaternionRead::Read(quaternion)
     }
 
-    // A vector worked out from the state, where the state is sound and the vector finite.
-    fn told(self, v: Vector) -> VectorRead
-        ensures { λ r. ⌜ VectorReads self v r ⌝ }
+    // The number of a vector worked out from the state: the state's, or 7 where it is not finite.
+    fn vector_refusal(self, v: Vector) -> u8
+        ensures { λ r. ⌜ r ≡ refusalOf (vectorChecks self v) ⌝ }
     {
-        let settings = self.settings;
-        if !settings.is_known() {
-            return VectorRead::Refused(4);
-        }
-        if !self.is_finite() {
-            return VectorRead::Refused(5);
+        let number = self.refusal();
+        if number != 0 {
+            return number;
         }
         if !v.is_finite() {
-            return VectorRead::Refused(7);
+            return 7;
+        }
+        0
+    }
+
+    fn read_vector(self, v: Vector) -> VectorRead
+        ensures { λ r. ⌜ VectorReads self v r ⌝ }
+    {
+        let number = self.vector_refusal(v);
+        if number != 0 {
+            return VectorRead::Refused(number);
         }
         VectorRead::Read(v)
     }
@@ -143,7 +146,7 @@ impl Ahrs {
     {
         let settings = self.settings;
         let q = self.quaternion;
-        self.told(half_gravity(settings.convention, q).mul(2.0))
+        self.read_vector(calculate_half_gravity(settings.convention, q).mul(2.0))
     }
 
     // The acceleration without gravity, in the sensor's frame.
@@ -153,7 +156,7 @@ impl Ahrs {
         let settings = self.settings;
         let q = self.quaternion;
         let accelerometer = self.accelerometer;
-        self.told(accelerometer.sub(half_gravity(settings.convention, q).mul(2.0)))
+        self.read_vector(accelerometer.sub(calculate_half_gravity(settings.convention, q).mul(2.0)))
     }
 
     // The acceleration without gravity, in the Earth's frame.
@@ -163,18 +166,15 @@ impl Ahrs {
         let settings = self.settings;
         let q = self.quaternion;
         let accelerometer = self.accelerometer;
-        self.told(without_gravity(settings.convention, turned(q, accelerometer)))
+        self.read_vector(without_gravity(settings.convention, earth_frame(q, accelerometer)))
     }
 
     pub fn flags(self) -> FlagsRead
         ensures { λ r. ⌜ FlagsReads self r ⌝ }
     {
-        let settings = self.settings;
-        if !settings.is_known() {
-            return FlagsRead::Refused(4);
-        }
-        if !self.is_finite() {
-            return FlagsRead::Refused(5);
+        let number = self.refusal();
+        if number != 0 {
+            return FlagsRead::Refused(number);
         }
         let acceleration = self.acceleration;
         let magnetic = self.magnetic;
@@ -192,12 +192,9 @@ impl Ahrs {
     pub fn internal_states(self) -> StatesRead
         ensures { λ r. ⌜ StatesReads self r ⌝ }
     {
-        let settings = self.settings;
-        if !settings.is_known() {
-            return StatesRead::Refused(4);
-        }
-        if !self.is_finite() {
-            return StatesRead::Refused(5);
+        let number = self.refusal();
+        if number != 0 {
+            return StatesRead::Refused(number);
         }
         let config = self.config;
         let acceleration = self.acceleration;

@@ -1,4 +1,4 @@
--- What a return of a call has to show, from the tests that led to it: which check fails, and the answer or the state then. Assumes nothing.
+-- What the returns of a call have to show, from the number of its checks: the refusal and nothing changed, or the answer and the new state. Assumes nothing.
 use Prim.Native.Nat.{ℕ, zero, suc}
 use mathlib.Core.Path.{_≡_, refl, sym, ap, subst, _∙_}
 use native.Mathlib.Omega.{arith}
@@ -6,8 +6,10 @@ use mathlib.Core.Bool.{Bool, true, false, not}
 use mathlib.Core.List.{List, [], _∷_}
 use Rattle.answer.specs.declared.Answer.{Answer}
 use Rattle.answer.specs.declared.Answer.the-variants.{Refused}
-use Rattle.answer.specs.Refusals.{Check, check, refusalOf, accepted, Answered, Changed, OnlyOne}
-use Rattle.answer.specs.Answers.{numberOf, valuesOf, Answers}
+use Rattle.answer.specs.Refusals.{Check, check, refusalOf, accepted}
+use Rattle.answer.specs.Said.{Said, refusal, numberSaid, valuesSaid}
+use Rattle.answer.specs.Answers.{numberOf, answerSaid}
+use Rattle.answer.specs.Promises.{Answered, Answers, Changed, Moved, OnlyOne}
 
 -- ---- which check fails
 
@@ -34,53 +36,73 @@ unfolding refusalOf
 unfailed k true cs e = absurd (omega arith)
 unfailed k false cs e = (refl, e)
 
--- ---- the answer, for any type of answers whose refusals carry their number alone
+-- ---- a call that answers, of any type of answers whose refusals carry their number alone
 
-module _ {A B : Type 0} (number : A → ℕ) (values : A → List B) (refused : ℕ → A)
-    (numbered : (n : ℕ) → number (refused n) ≡ n) (bare : (n : ℕ) → values (refused n) ≡ []) where
-  number-of : (k : ℕ) (a : A) → number a ≡ 0 → number (accepted k a (refused k)) ≡ k
-  number-of zero a z = z
-  number-of (suc k) a z = numbered (suc k)
-
-  values-of : (k : ℕ) (a : A) → values (accepted k a (refused k)) ≡ accepted k (values a) []
-  values-of zero a = refl
-  values-of (suc k) a = bare (suc k)
-
-  pub answered : (cs : List Check) (a r : A) → number a ≡ 0 → r ≡ accepted (refusalOf cs) a (refused (refusalOf cs)) → Answered number values refused cs a r
-  answered cs a r z e =
+module _ {A B : Type 0} (said : A → Said B) (refused : ℕ → A) (bare : (n : ℕ) → said (refused n) ≡ refusal n)
+    (cs : List Check) (a : A) (z : numberSaid (said a) ≡ 0) where
+  answered : (k : ℕ) → refusalOf cs ≡ k → Answered said refused cs a (accepted k a (refused k))
+  answered zero e =
       record {
-        exact = e;
-        number = ap number e ∙ number-of (refusalOf cs) a z;
-        values = ap values e ∙ values-of (refusalOf cs) a;
+        exact = ap (λ (n : ℕ). accepted n a (refused n)) (sym e);
+        number = z ∙ sym e;
+        values = ap (λ (n : ℕ). accepted n (valuesSaid (said a)) []) (sym e);
+      }
+  answered (suc k) e =
+      record {
+        exact = ap (λ (n : ℕ). accepted n a (refused n)) (sym e);
+        number = ap numberSaid (bare (suc k)) ∙ sym e;
+        values = ap valuesSaid (bare (suc k)) ∙ ap (λ (n : ℕ). accepted n (valuesSaid (said a)) []) (sym e);
       }
 
-  -- the checks give a number
-  pub refuses : (cs : List Check) (a : A) (k : ℕ) → number a ≡ 0 → refusalOf cs ≡ suc k → Answered number values refused cs a (refused (suc k))
-  refuses cs a k z e = answered cs a (refused (suc k)) z (ap (λ (n : ℕ). accepted n a (refused n)) (sym e))
+  pub refuses : {n : ℕ} → n ≡ refusalOf cs → (n ≡ 0 → ⊥) → Answered said refused cs a (refused n)
+  refuses {n} e h = go n e h
+    where
+      go : (k : ℕ) → k ≡ refusalOf cs → (k ≡ 0 → ⊥) → Answered said refused cs a (refused k)
+      go zero p g = absurd (g refl)
+      go (suc k) p g = answered (suc k) (sym p)
 
-  -- they give none
-  pub accepts : (cs : List Check) (a : A) → number a ≡ 0 → refusalOf cs ≡ 0 → Answered number values refused cs a a
-  accepts cs a z e = answered cs a a z (ap (λ (n : ℕ). accepted n a (refused n)) (sym e))
+  pub gives : {n : ℕ} → n ≡ refusalOf cs → n ≡ 0 → {r : A} → r ≡ a → Answered said refused cs a r
+  gives e h f = subst (λ (x : A). Answered said refused cs a x) (sym f) (answered 0 (sym e ∙ h))
 
+-- an `Answer` that is what the checks say is one by them
 pub answers : (cs : List Check) (a r : Answer) → numberOf a ≡ 0 → r ≡ accepted (refusalOf cs) a (Refused (refusalOf cs)) → Answers cs a r
-answers = answered numberOf valuesOf Refused (λ n. refl) (λ n. refl)
+answers cs a r z e = subst (λ (x : Answer). Answers cs a x) (sym e) (answered answerSaid Refused (λ n. refl) cs a z (refusalOf cs) refl)
 
--- ---- the state or the lent slice
+-- ---- a call that changes something
 
-pub keeps : {A : Type 0} (cs : List Check) (new old : A) (k : ℕ) → refusalOf cs ≡ suc k → Changed cs new old old (suc k)
-keeps cs new old k e = record { number = sym e; holds = ap (λ (n : ℕ). accepted n new old) (sym e) }
+module _ {S : Type 0} (cs : List Check) (new old : S) {n : ℕ} (e : n ≡ refusalOf cs) where
+  state-of : {k : ℕ} → n ≡ k → accepted k new old ≡ accepted (refusalOf cs) new old
+  state-of h = ap (λ (k : ℕ). accepted k new old) (sym h ∙ e)
 
-pub changes : {A : Type 0} (cs : List Check) (new old : A) → refusalOf cs ≡ 0 → Changed cs new old new 0
-changes cs new old e = record { number = sym e; holds = ap (λ (n : ℕ). accepted n new old) (sym e) }
+  -- what is refused leaves it as it was
+  old-stays : (n ≡ 0 → ⊥) → old ≡ accepted (refusalOf cs) new old
+  old-stays h = go n refl
+    where
+      go : (k : ℕ) → n ≡ k → old ≡ accepted (refusalOf cs) new old
+      go zero p = absurd (h p)
+      go (suc k) p = state-of p
 
-pub writes : {A : Type 0} (cs : List Check) (new old : A) {now : A} → refusalOf cs ≡ 0 → now ≡ new → Changed cs new old now 0
-writes {A} cs new old e f = subst (λ (x : A). Changed cs new old x 0) (sym f) (changes cs new old e)
+  pub stays : (n ≡ 0 → ⊥) → Changed cs new old old n
+  stays h = record { number = e; holds = old-stays h }
+
+  pub becomes : n ≡ 0 → {now : S} → now ≡ new → Changed cs new old now 0
+  becomes h f = record { number = sym h ∙ e; holds = f ∙ state-of h }
+
+-- ---- a call that answers and changes the state
+
+module _ {S : Type 0} (cs : List Check) (a : Answer) (z : numberOf a ≡ 0) (new old : S) {n : ℕ} (e : n ≡ refusalOf cs) where
+  pub unmoved : (n ≡ 0 → ⊥) → Moved cs a new old old (Refused n)
+  unmoved h = record { answer = refuses answerSaid Refused (λ k. refl) cs a z e h; state = old-stays cs new old e h }
+
+  pub moved : n ≡ 0 → {now : S} {r : Answer} → now ≡ new → r ≡ a → Moved cs a new old now r
+  moved h f g = record { answer = gives answerSaid Refused (λ k. refl) cs a z e h g; state = f ∙ state-of cs new old e h }
 
 -- ---- a promise has one result
 
 pub only-one : OnlyOne
 only-one =
     record {
-      answered = λ numberOf valuesOf refused cs a r s p q. p .exact ∙ sym (q .exact);
+      answered = λ said refused cs a r s p q. p .exact ∙ sym (q .exact);
       changed = λ cs new old now also r s p q. (p .number ∙ sym (q .number), p .holds ∙ sym (q .holds));
+      moved = λ cs a new old now also r s p q. (p .answer .exact ∙ sym (q .answer .exact), p .state ∙ sym (q .state));
     }

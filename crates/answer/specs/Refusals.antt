@@ -24,18 +24,6 @@ abbrev pub accepted : {A : Type 0} → ℕ → A → A → A
 accepted zero new old = new
 accepted (suc n) new old = old
 
--- r is the refusal that the checks give, or where they give none the answer a; a refusal carries its number and nothing else.
--- `numberOf` and `valuesOf` are the number and the values of each case of the answer's type, `refused` its refusals.
-pub record Answered {A B : Type 0} (numberOf : A → ℕ) (valuesOf : A → List B) (refused : ℕ → A) (cs : List Check) (a r : A) : Type 0 where
-  pub exact : r ≡ accepted (refusalOf cs) a (refused (refusalOf cs))
-  pub number : numberOf r ≡ refusalOf cs
-  pub values : valuesOf r ≡ accepted (refusalOf cs) (valuesOf a) []
-
--- r is the number that the checks give, and what was lent holds `new`, or where they refuse what it held
-pub record Changed {A : Type 0} (cs : List Check) (new old now : A) (r : ℕ) : Type 0 where
-  pub number : r ≡ refusalOf cs
-  pub holds : now ≡ accepted (refusalOf cs) new old
-
 -- ---- the law of the table
 
 -- the numbers are k at least, and do not fall
@@ -65,19 +53,3 @@ pub record Exactly (cs : List Check) : Type 0 where
 -- so it is for every list of checks in the table's order
 abbrev pub ByTheTable : Type 0
 ByTheTable = (cs : List Check) → T (ascends 1 cs) → Exactly cs
-
--- ---- the promises determine
-
--- two results that both satisfy a promise are the same
-abbrev pub One : {A : Type 0} → (A → Type 0) → Type 0
-One {A} P = (r s : A) → P r → P s → r ≡ s
-
--- where something was lent, a promise is of what that holds afterwards too, and both are the same
-abbrev pub OneLent : {A B : Type 0} → (A → B → Type 0) → Type 0
-OneLent {A} {B} P = (now also : A) (r s : B) → P now r → P also s → (r ≡ s) × (now ≡ also)
-
--- so it is with both records, whatever the type
-pub record OnlyOne : Type 1 where
-  pub answered : {A B : Type 0} (numberOf : A → ℕ) (valuesOf : A → List B) (refused : ℕ → A) (cs : List Check) (a : A)
-      → One (Answered numberOf valuesOf refused cs a)
-  pub changed : {A : Type 0} (cs : List Check) (new old : A) → OneLent (Changed cs new old)

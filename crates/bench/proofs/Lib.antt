@@ -1,1 +1,1 @@
-pub mod Starred
+mod Wrong

@@ -112,7 +112,7 @@ fn print_records() {
     print_record(b"record of mounting 24", &unknown);
 }
 
-fn told(name: &[u8], yes: bool) {
+fn report(name: &[u8], yes: bool) {
     say(name);
     if yes {
         say(b": yes\n");
@@ -126,11 +126,11 @@ fn print_step() {
     let residual = seen.residual;
     let limit = residual.norm_squared();
     let below = wire::float_of(std::num::wrapping_sub_u32(wire::bits_of(limit), 1));
-    told(
+    report(
         b"squared residual equal to the limit is ignored",
         filter::judged(0.5, 1.0, limit).ignored,
     );
-    told(
+    report(
         b"squared residual a step above the limit is ignored",
         filter::judged(0.5, 1.0, below).ignored,
     );
@@ -145,26 +145,26 @@ fn print_range() {
     let Beginning::At(fresh) = filter::begin(filter::settings(10.0, 0.5, 1.0)) else {
         return;
     };
-    told(
+    report(
         b"1960 of 2000 is over range",
         filter::is_over_range(fresh, 1960.0),
     );
-    told(
+    report(
         b"1960.0001 of 2000 is over range",
         filter::is_over_range(fresh, 1960.0001),
     );
 }
 
 fn print_startup() {
-    told(
+    report(
         b"gain 10, in startup after 1 update",
         filter::stays_in_startup(filter::settings(10.0, 10.0, 1.0), 1),
     );
-    told(
+    report(
         b"gain 11 and period 4, in startup after 1000 updates",
         filter::stays_in_startup(filter::settings(0.25, 11.0, 1.0), 1000),
     );
-    told(
+    report(
         b"a fall too small to change 10, in startup after 1000 updates",
         filter::stays_in_startup(filter::settings(1000000000.0, 0.5, 1.0), 1000),
     );
@@ -173,7 +173,7 @@ fn print_startup() {
 fn print_shown(s: filter::Recovery) {
     say(b": ratio");
     bits(s.ratio);
-    told(b", recovery flag up", s.flag);
+    report(b", recovery flag up", s.flag);
 }
 
 fn print_after(name: &[u8], change: Change) {

@@ -26,7 +26,7 @@ pub(crate) enum Estimator {
 }
 
 // The state after a call, and what the call says.
-struct Told {
+struct Step {
     state: Bias,
     said: Said,
 }
@@ -68,22 +68,22 @@ pub(crate) fn words(estimator: Estimator) -> Words {
         .vector(offset)
 }
 
-fn unchanged(state: Bias, said: Said) -> Told {
-    Told { state, said }
+fn unchanged(state: Bias, said: Said) -> Step {
+    Step { state, said }
 }
 
-fn changed(change: Change) -> Told {
+fn changed(change: Change) -> Step {
     let state = change.state;
-    Told {
+    Step {
         state,
         said: said::number(change.number),
     }
 }
 
-fn read(reading: Reading) -> Told {
+fn read(reading: Reading) -> Step {
     let state = reading.state;
     let answer = reading.answer;
-    Told {
+    Step {
         state,
         said: said::answer(answer),
     }
@@ -124,7 +124,7 @@ fn recorded(bias: Bias, record: &[u8]) -> Said {
 }
 
 // Restores the record whose bytes stand from word 3 on. A length beyond the call's record is refused as any other that is not 18.
-fn restored(bias: Bias, record: &[u8]) -> Told {
+fn restored(bias: Bias, record: &[u8]) -> Step {
     let n = length_at(record, 2);
     if record.len() != RECORD {
         return unchanged(bias, said::number(1));
@@ -146,7 +146,7 @@ fn said_of(bias: Bias, call: u32, record: &[u8]) -> Said {
     }
 }
 
-fn tell(bias: Bias, call: u32, record: &[u8]) -> Told {
+fn tell(bias: Bias, call: u32, record: &[u8]) -> Step {
     match call {
         0x61 => changed(bias.set_settings(settings_at(record))),
         0x62 => read(bias.update(vector_at(record, 1))),
@@ -182,9 +182,9 @@ pub(crate) fn answer(estimator: Estimator, call: u32, record: &[u8]) -> Answered
             said: said::number(1),
         };
     };
-    let told = tell(bias, call, record);
-    let state = told.state;
-    let said = told.said;
+    let step = tell(bias, call, record);
+    let state = step.state;
+    let said = step.said;
     Answered {
         estimator: Estimator::At(state),
         said,

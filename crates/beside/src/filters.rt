@@ -26,7 +26,7 @@ pub(crate) enum Filter {
 }
 
 // The state after a call, and what the call says.
-struct Told {
+struct Step {
     state: Ahrs,
     said: Said,
 }
@@ -58,22 +58,22 @@ pub(crate) fn words(filter: Filter) -> Words {
     }
 }
 
-fn unchanged(state: Ahrs, said: Said) -> Told {
-    Told { state, said }
+fn unchanged(state: Ahrs, said: Said) -> Step {
+    Step { state, said }
 }
 
-fn changed(change: Change) -> Told {
+fn changed(change: Change) -> Step {
     let state = change.state;
-    Told {
+    Step {
         state,
         said: said::number(change.number),
     }
 }
 
-fn read(reading: Reading) -> Told {
+fn read(reading: Reading) -> Step {
     let state = reading.state;
     let answer = reading.answer;
-    Told {
+    Step {
         state,
         said: said::answer(answer),
     }
@@ -135,7 +135,7 @@ fn settings_of(read: SettingsRead) -> Said {
     }
 }
 
-fn update(ahrs: Ahrs, record: &[u8]) -> Told {
+fn update(ahrs: Ahrs, record: &[u8]) -> Step {
     let gyroscope = vector_at(record, 1);
     let accelerometer = vector_at(record, 4);
     let magnetometer = vector_at(record, 7);
@@ -157,7 +157,7 @@ fn said_of(ahrs: Ahrs, call: u32) -> Said {
     }
 }
 
-fn tell(ahrs: Ahrs, call: u32, record: &[u8]) -> Told {
+fn tell(ahrs: Ahrs, call: u32, record: &[u8]) -> Step {
     match call {
         0x81 => changed(ahrs.set_settings(settings_at(record))),
         0x82 => changed(ahrs.set_sample_period(float_at(record, 1))),
@@ -194,9 +194,9 @@ pub(crate) fn answer(filter: Filter, call: u32, record: &[u8]) -> Answered {
             said: said::number(1),
         };
     };
-    let told = tell(ahrs, call, record);
-    let state = told.state;
-    let said = told.said;
+    let step = tell(ahrs, call, record);
+    let state = step.state;
+    let said = step.said;
     Answered {
         filter: Filter::At(state),
         said,

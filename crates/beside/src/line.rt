@@ -17,47 +17,34 @@ pub(crate) fn put_byte(out: &mut Lines, at: usize, byte: u8) -> usize {
     at + 1
 }
 
-// `0`, or `refused` and the number, which is below 10.
+// The bytes of a text, up to its newline if it has one.
+fn put_text(out: &mut Lines, at: usize, text: &[u8]) -> usize {
+    let mut place = at;
+    let mut i = 0;
+    while i < text.len() {
+        if text[i] == b'\n' {
+            return place;
+        }
+        place = put_byte(out, place, text[i]);
+        i += 1;
+    }
+    place
+}
+
+// `0`, or `refused` and the number.
 pub(crate) fn put_number(out: &mut Lines, at: usize, number: u8) -> usize {
     if number == 0 {
         return put_byte(out, at, b'0');
     }
-    if at > ROOM - 9 {
-        return at;
-    }
-    out[at] = b'r';
-    out[at + 1] = b'e';
-    out[at + 2] = b'f';
-    out[at + 3] = b'u';
-    out[at + 4] = b's';
-    out[at + 5] = b'e';
-    out[at + 6] = b'd';
-    out[at + 7] = b' ';
-    out[at + 8] = b'0' + number % 10;
-    at + 9
-}
-
-// The last hexadecimal digit.
-fn digit(n: u32) -> u8 {
-    let d = (n % 16) as u8;
-    if d < 10 { d + b'0' } else { d + 55 }
+    let mut line = [0u8; 12];
+    text::put_refused(number, &mut line);
+    put_text(out, at, &line)
 }
 
 // A space and the word.
 fn put_word(out: &mut Lines, at: usize, word: u32) -> usize {
-    if at > ROOM - 9 {
-        return at;
-    }
-    out[at] = b' ';
-    out[at + 1] = digit(word / 0x1000_0000);
-    out[at + 2] = digit(word / 0x100_0000);
-    out[at + 3] = digit(word / 0x10_0000);
-    out[at + 4] = digit(word / 0x1_0000);
-    out[at + 5] = digit(word / 0x1000);
-    out[at + 6] = digit(word / 0x100);
-    out[at + 7] = digit(word / 0x10);
-    out[at + 8] = digit(word);
-    at + 9
+    let space = put_byte(out, at, b' ');
+    put_text(out, space, &text::word(word))
 }
 
 pub(crate) fn put_words(out: &mut Lines, at: usize, words: Words) -> usize {

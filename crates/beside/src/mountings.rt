@@ -59,7 +59,7 @@ fn turn_run(record: &[u8]) -> Said {
     }
     let source = given(record);
     let mut turned = [1.0f32; 64];
-    let number = remap::turn_run(choice_at(record, 1), &source[0..n], &mut turned[0..room]);
+    let number = turning::turn_run(choice_at(record, 1), &source[0..n], &mut turned[0..room]);
     lent::floats(number, &turned, room)
 }
 

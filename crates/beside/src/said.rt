@@ -3,7 +3,7 @@ use super::words::Words;
 use answer::Answer;
 use math::Matrix;
 use math::Quaternion;
-use remap::Mounting;
+use remap::MountingRead;
 use vector::Vector;
 
 pub(crate) struct Said {
@@ -50,10 +50,10 @@ pub(crate) fn matrix(m: Matrix) -> Said {
     words(Words::none().matrix(m))
 }
 
-pub(crate) fn mounting(mounting: Mounting) -> Said {
+pub(crate) fn mounting(mounting: MountingRead) -> Said {
     match mounting {
-        Mounting::Number(n) => word(n as u32),
-        Mounting::Refused(n) => number(n),
+        MountingRead::Number(n) => word(n as u32),
+        MountingRead::Refused(n) => number(n),
     }
 }
 

@@ -1,72 +1,66 @@
--- From a fresh estimator every state is finite: `StaysFinite` holds. Assumes nothing.
-use mathlib.Core.Path.{_≡_, refl, ap₂}
-use mathlib.Core.Bool.{Bool, true, _&&_}
-use mathlib.Core.List.{List, [], _∷_}
-use Prim.Native.Nat.{ℕ, zero, suc}
-use lib.Ieee.{ofBits}
-use lib.Ieee.Scale.{finite}
-use Rattle.answer.proofs.Tests.{both}
-use Rattle.answer.specs.Refusals.{refusalOf, accepted}
-use Rattle.answer.proofs.Answering.{passed}
+-- Whether state, corrected reading and next state are finite, by fewer tests: the state stands but for its timer, or its offset grew. Assumes nothing.
+use Prim.Native.Nat.{_+_}
+use mathlib.Core.Path.{_≡_, refl, sym, ap, ap₂, _∙_}
+use mathlib.Core.Bool.{Bool, true, false, _&&_, _||_, cond, and-false, false≢true}
+use lib.Dec.{ltb}
 use Rattle.vector.specs.declared.Vector.{Vector}
-use Rattle.vector.specs.Vectors.{finiteVector, zeroVector}
-use Rattle.bias.specs.declared.BiasSettings.{BiasSettings}
+use Rattle.vector.specs.Vectors.{finiteVector, exceedsOf, addOf, mulOf}
+use Rattle.vector.proofs.Shows.{add-shows, mul-shows}
 use Rattle.bias.specs.declared.Bias.{Bias}
-use Rattle.bias.specs.Settings.{finiteSettings, aboveZero, coefficientOf}
-use Rattle.bias.specs.Estimator.{freshOf, finiteBias, withOffset, withSettings, restarted, correctedOf, advancedOf}
-use Rattle.bias.specs.Calls.{startChecks, readingChecks, offsetChecks, settingsChecks, stateChecks}
-use Rattle.bias.specs.Runs.{Call, reading, set-offset, restart, set-settings, stepOf, runOf}
-use Rattle.bias.specs.Reached.{AllFinite, StaysFinite}
+use Rattle.bias.specs.Settings.{finiteSettings}
+use Rattle.bias.specs.Estimator.{finiteBias, withTimer, withOffset, advancedOf}
+use Rattle.bias.specs.Inner.{allFinite}
 
--- what is kept is finite, and so is what is accepted
-settled : (n : ℕ) (new old : Bias) → finiteBias old ≡ true → (n ≡ 0 → finiteBias new ≡ true) → finiteBias (accepted n new old) ≡ true
-settled zero new old h k = k refl
-settled (suc n) new old h k = h
+-- what the offset grew to is finite only where the coefficient, the offset and the corrected reading are
+grows : (s k o c w : Bool) → (w ≡ true → (k ≡ true) × (o ≡ true) × (c ≡ true)) → (s && w) ≡ (s && k && o && c && (s && k && w))
+grows false k o c w h = refl
+grows true k o c false h = sym (ap (λ (x : Bool). k && o && c && x) (and-false k) ∙ and-false (k && o && c))
+grows true k o c true h = let t = h refl in rw (t .0, t .1, t .2)
 
--- settings and coefficient
-abbrev fixed : Bias → Bool
-fixed b = finiteSettings (b .settings) && finite (b .«filter_coefficient»)
+again : (a b : Bool) → (a && b) ≡ (a && b && a)
+again true true = refl
+again true false = refl
+again false b = refl
 
-with-offset : (b : Bias) (v : Vector) → finiteBias b ≡ true → finiteVector v ≡ true → finiteBias (withOffset b v) ≡ true
-unfolding finiteBias
-with-offset b v h k = ap₂ _&&_ (both (fixed b) (finiteVector (b .offset)) h .0) k
+module _ (b : Bias) (c : Vector) where
+  -- the next state, by whether the reading moves and whether the timer waits
+  abbrev by-tests : Bool → Bool → Bias
+  by-tests m w = cond m (withTimer b 0) (cond w (withTimer b (b .timer + 1)) (withOffset b (addOf (b .offset) (mulOf c (b .«filter_coefficient»)))))
 
-zero-finite : finiteVector zeroVector ≡ true
-unfolding finiteVector ofBits
-zero-finite = refl
+  -- but for its timer the state stands
+  stood : (m w : Bool) → (m || w) ≡ true → (finiteBias b && finiteVector c) ≡ allFinite b c (by-tests m w)
+  unfolding finiteBias
+  stood true w h = again (finiteBias b) (finiteVector c)
+  stood false true h = again (finiteBias b) (finiteVector c)
+  stood false false h = absurd (false≢true h)
 
-restarted-finite : (b : Bias) → finiteBias b ≡ true → finiteBias (restarted b) ≡ true
-unfolding finiteBias
-restarted-finite b h = ap₂ _&&_ (both (fixed b) (finiteVector (b .offset)) h .0) zero-finite
+  grew : (m w : Bool) → (m || w) ≡ false → (finiteSettings (b .settings) && finiteVector (by-tests m w .offset)) ≡ allFinite b c (by-tests m w)
+  unfolding finiteBias
+  grew true w h = absurd (false≢true (sym h))
+  grew false true h = absurd (false≢true (sym h))
+  grew false false h =
+      grows (finiteSettings (b .settings)) _ _ _ _
+      (λ f.
+      let p = add-shows (b .offset) (mulOf c (b .«filter_coefficient»)) f in
+      let q = mul-shows c (b .«filter_coefficient») (p .1) in
+      (q .1, p .0, q .0))
 
-with-settings : (b : Bias) (s : BiasSettings) → finiteBias b ≡ true → finiteSettings s ≡ true → finite (coefficientOf s) ≡ true → finiteBias (withSettings b s) ≡ true
-unfolding finiteBias
-with-settings b s h k l = ap₂ _&&_ (ap₂ _&&_ k l) (both (fixed b) (finiteVector (b .offset)) h .1)
+  abbrev moves : Bool
+  moves = exceedsOf c (b .settings .«stationary_threshold»)
 
-fresh-finite : (s : BiasSettings) → refusalOf (startChecks s) ≡ 0 → finiteBias (freshOf s) ≡ true
-unfolding finiteBias
-fresh-finite s e =
-    let f = passed 4 (finiteSettings s) _ e in
-    let g = passed 5 (aboveZero s) _ (f .1) in
-    ap₂ _&&_ (ap₂ _&&_ (f .0) (passed 6 (finite (coefficientOf s)) [] (g .1) .0)) zero-finite
+  abbrev waits : Bool
+  waits = ltb (b .timer) (b .timeout)
 
-pub after-call : (b : Bias) → finiteBias b ≡ true → (c : Call) → finiteBias (stepOf b c .state) ≡ true
-after-call b h (reading g) =
-    settled (refusalOf (readingChecks b g)) (advancedOf b (correctedOf b g)) b h
-    (λ e. both (finiteBias (advancedOf b (correctedOf b g))) (finiteVector (correctedOf b g)) (passed 6 (finiteBias (advancedOf b (correctedOf b g)) && finiteVector (correctedOf b g)) [] (passed 4 (finiteBias b && finiteVector g) _ e .1) .0) .0)
-after-call b h (set-offset v) =
-    settled (refusalOf (offsetChecks b v)) (withOffset b v) b h (λ e. with-offset b v h (both (finiteBias b) (finiteVector v) (passed 4 (finiteBias b && finiteVector v) [] e .0) .1))
-after-call b h restart = settled (refusalOf (stateChecks b)) (restarted b) b h (λ e. restarted-finite b h)
-after-call b h (set-settings s) =
-    settled (refusalOf (settingsChecks b s)) (withSettings b s) b h
-    (λ e.
-    let f = passed 4 (finiteBias b && finiteSettings s) _ e in
-    let g = passed 5 (aboveZero s) _ (f .1) in
-    with-settings b s h (both (finiteBias b) (finiteSettings s) (f .0) .1) (passed 6 (finite (coefficientOf s)) [] (g .1) .0))
+  module _ {n : Bias} {r : Bool} (en : n ≡ advancedOf b c) (er : r ≡ moves) where
+    tested : {v : Bool} → (r || waits) ≡ v → (moves || waits) ≡ v
+    tested h = ap (λ (x : Bool). x || waits) (sym er) ∙ h
 
-after-run : (b : Bias) → finiteBias b ≡ true → (cs : List Call) → AllFinite (runOf b cs)
-after-run b h [] = tt
-after-run b h (c ∷ cs) = (after-call b h c, after-run (stepOf b c .state) (after-call b h c) cs)
+    -- f and g are what the code tests
+    pub standing : {f g : Bool} → f ≡ finiteBias b → g ≡ finiteVector c → (r || waits) ≡ true → (f && g) ≡ allFinite b c n
+    unfolding advancedOf
+    standing ef eg h = ap₂ _&&_ ef eg ∙ stood moves waits (tested h) ∙ ap (allFinite b c) (sym en)
 
-pub stays-finite : StaysFinite
-stays-finite s e cs = (fresh-finite s e, after-run (freshOf s) (fresh-finite s e) cs)
+    pub growing : {f g : Bool} → f ≡ finiteSettings (b .settings) → g ≡ finiteVector (n .offset) → (r || waits) ≡ false → (f && g) ≡ allFinite b c n
+    unfolding advancedOf
+    growing ef eg h =
+        ap₂ _&&_ ef (eg ∙ ap (λ (x : Bias). finiteVector (x .offset)) en) ∙ grew moves waits (tested h) ∙ ap (allFinite b c) (sym en)

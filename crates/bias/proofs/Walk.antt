@@ -1,17 +1,10 @@
--- What the walks by hand share: the machine value of a state, a vector, an answer and a `Read`, what is known of each, and a local that holds a state as memory that can be lent.
--- No field of a state, a vector or an answer is named: all is had from the laws that `rattle check` makes of each declared type.
--- Assumes nothing.
+-- What the walk by hand needs of a state and of a `Reading`: a state's machine value, and what is known of it there. No field of a state is named: all
+-- is had from the laws that `rattle check` makes of each declared type. Assumes nothing.
 use mathlib.Core.List.{[], _∷_, List}
 use mir.Val.{Val}
 use denote.Laws.{Is}
 use denote.Struct.Laws as LL
-use denote.Enum.Laws as EL
-use Rattle.vector.specs.declared.Vector.{Vector}
-use Rattle.answer.specs.declared.Answer.{Answer}
-use Rattle.vector.proofs.Vector as G
-use Rattle.vector.proofs.Vector.Laws as G′
-use Rattle.answer.proofs.Answer as E
-use Rattle.answer.proofs.Answer.Laws as E′
+use Rattle.answer.proofs.Walk.{IsAnswer}
 use Rattle.bias.specs.declared.Bias.{Bias}
 use Rattle.bias.specs.declared.Reading.{Reading}
 use Rattle.bias.proofs.Bias as T
@@ -19,27 +12,13 @@ use Rattle.bias.proofs.Bias.Laws as T′
 use Rattle.bias.proofs.Reading as R
 use Rattle.bias.proofs.Reading.Laws as R′
 
--- ---- machine values, and the relation of each type at its own
-
 abbrev pub stateV : Bias → Val
 stateV = LL.val T.the-type T′.the-laws
-
-abbrev pub vectorV : Vector → Val
-vectorV = LL.val G.the-type G′.the-laws
-
-abbrev pub answerV : Answer → Val
-answerV = EL.val E.the-type E′.the-laws
 
 abbrev pub IsState : Bias → Type 0
 IsState s = Is T.the-row s (stateV s ∷ [])
 
-abbrev pub IsVector : Vector → Type 0
-IsVector g = Is G.the-row g (vectorV g ∷ [])
-
-abbrev pub IsAnswer : Answer → Type 0
-IsAnswer a = Is E.the-row a (answerV a ∷ [])
-
--- ---- a `Read` taken apart, and put together
+-- ---- a `Reading` taken apart
 
 pub state-is : (r : Reading) (vs : List Val) → Is R.the-row r vs → IsState (r .state)
 state-is r vs is = LL.owed R.the-type R′.the-laws r vs is .0

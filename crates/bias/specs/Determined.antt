@@ -1,6 +1,6 @@
 -- 01, "What we will read in the promises": two results that both satisfy a call's promise are the same.
 use Rattle.answer.specs.declared.Answer.{Answer}
-use Rattle.answer.specs.Refusals.{One, OneLent}
+use Rattle.answer.specs.Promises.{One, OneLent}
 use Rattle.vector.specs.declared.Vector.{Vector}
 use Rattle.bias.specs.declared.BiasSettings.{BiasSettings}
 use Rattle.bias.specs.declared.Bias.{Bias}

@@ -3,12 +3,13 @@ use Rattle.answer.specs.Refusals.{Exactly}
 use Rattle.vector.specs.declared.Vector.{Vector}
 use Rattle.bias.specs.declared.BiasSettings.{BiasSettings}
 use Rattle.bias.specs.declared.Bias.{Bias}
-use Rattle.bias.specs.Calls.{startChecks, readingChecks, offsetChecks, stateChecks, settingsChecks}
+use Rattle.bias.specs.Calls.{settingsChecks, readingChecks, offsetChecks, stateChecks, changeChecks}
 
 pub record ExactlyWhen : Type 0 where
-  pub start : (s : BiasSettings) → Exactly (startChecks s)
+  -- a start, and the number of settings alone
+  pub start : (s : BiasSettings) → Exactly (settingsChecks s)
   pub reading : (b : Bias) (g : Vector) → Exactly (readingChecks b g)
   pub set-offset : (b : Bias) (v : Vector) → Exactly (offsetChecks b v)
-  pub set-settings : (b : Bias) (s : BiasSettings) → Exactly (settingsChecks b s)
+  pub set-settings : (b : Bias) (s : BiasSettings) → Exactly (changeChecks b s)
   -- restart and the three calls that read
   pub of-the-state : (b : Bias) → Exactly (stateChecks b)

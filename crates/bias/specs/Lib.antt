@@ -3,6 +3,4 @@ pub mod Estimator
 pub mod Calls
 pub mod Exact
 pub mod Determined
-pub mod Runs
-pub mod Reached
-pub mod Symmetry
+pub mod Inner

@@ -1,12 +1,10 @@
 -- 01, "Bias": what is derived from the settings, and which settings are refused.
 use Prim.Native.Nat.{ℕ}
-use mathlib.Core.Path.{_≡_}
 use mathlib.Core.Bool.{Bool, _&&_}
 use lib.Ieee.{Float, binary32, lt, ofBits, toUnsigned}
 use lib.Ieee.Scale.{finite}
 use Rattle.number.specs.Float32.{_⊗_, _⊘_, zero, one, two}
 use Rattle.bias.specs.declared.BiasSettings.{BiasSettings}
-use Rattle.bias.specs.declared.Derived.{Derived}
 
 -- the f32 constant pi
 abbrev pub pi : Float
@@ -18,10 +16,6 @@ coefficientOf s = two ⊗ pi ⊗ s .«cutoff_frequency» ⊗ (one ⊘ s .«sampl
 -- the product may be infinite: it is not kept, and gives the largest
 unfoldable pub timeoutOf : BiasSettings → ℕ
 timeoutOf s = toUnsigned 32 (s .«stationary_period» ⊗ s .«sample_rate»)
-
-pub record Derives (s : BiasSettings) (r : Derived) : Type 0 where
-  pub coefficient : r .«filter_coefficient» ≡ coefficientOf s
-  pub timeout : r .timeout ≡ timeoutOf s
 
 unfoldable pub finiteSettings : BiasSettings → Bool
 finiteSettings s =

@@ -2,11 +2,12 @@
 use answer::Answer;
 use vector::Vector;
 ghost use mathlib.Core.Path.{_≡_};
-ghost use mathlib.Core.Bool.{_&&_, cond};
-ghost use Rattle.vector.specs.Vectors.{finiteVector};
-ghost use Rattle.bias.specs.Settings.{finiteSettings, Derives};
+ghost use Rattle.answer.specs.Refusals.{refusalOf};
+ghost use Rattle.bias.specs.Settings.{finiteSettings};
 ghost use Rattle.bias.specs.Estimator.{finiteBias, advancedOf};
+ghost use Rattle.bias.specs.Calls.{settingsChecks, readingChecks, offsetChecks, stateChecks, changeChecks};
 ghost use Rattle.bias.specs.Calls.{Starts, Reads, SetsOffset, Restarts, SetsSettings};
+ghost use Rattle.bias.specs.Inner.{Derives, Advances, allFinite};
 
 pub mod lent; // lent.rt: update_lent
 pub mod reads; // reads.rt: settings, offset, is_active
@@ -72,22 +73,34 @@ impl BiasSettings {
             timeout: number::to_u32(self.stationary_period * self.sample_rate),
         }
     }
+
+    // The number of the settings' checks: 5, 6 or 7, or 0 where an estimator starts with them.
+    pub fn refusal(self) -> u8
+        ensures { λ r. ⌜ r ≡ refusalOf (settingsChecks self) ⌝ }
+    {
+        if !self.is_finite() {
+            return 5;
+        }
+        if !(self.sample_rate > 0.0) {
+            return 6;
+        }
+        let derived = self.derived();
+        if !number::is_finite(derived.filter_coefficient) {
+            return 7;
+        }
+        0
+    }
 }
 
 impl Bias {
     pub fn with_settings(settings: BiasSettings) -> Started
         ensures { λ r. ⌜ Starts settings r ⌝ }
     {
-        if !settings.is_finite() {
-            return Started::Refused(5);
-        }
-        if !(settings.sample_rate > 0.0) {
-            return Started::Refused(6);
+        let number = settings.refusal();
+        if number != 0 {
+            return Started::Refused(number);
         }
         let derived = settings.derived();
-        if !number::is_finite(derived.filter_coefficient) {
-            return Started::Refused(7);
-        }
         let offset = Vector::ZERO;
         Started::Fresh(Bias {
             settings,
@@ -98,40 +111,33 @@ impl Bias {
         })
     }
 
+    // The number of a settings change's checks: the state's 5 before the settings' own.
+    fn change_refusal(self, settings: BiasSettings) -> u8
+        ensures { λ r. ⌜ r ≡ refusalOf (changeChecks self settings) ⌝ }
+    {
+        if !self.is_finite() {
+            return 5;
+        }
+        settings.refusal()
+    }
+
     // Other settings; timer and offset are kept.
     pub fn set_settings(self, settings: BiasSettings) -> Change
         ensures { λ r. ⌜ SetsSettings self settings r ⌝ }
     {
-        if !(self.is_finite() & settings.is_finite()) {
+        let number = self.change_refusal(settings);
+        if number != 0 {
             return Change {
                 state: self,
-                number: 5,
-            };
-        }
-        if !(settings.sample_rate > 0.0) {
-            return Change {
-                state: self,
-                number: 6,
+                number,
             };
         }
         let derived = settings.derived();
-        if !number::is_finite(derived.filter_coefficient) {
-            return Change {
-                state: self,
-                number: 7,
-            };
-        }
-        let offset = self.offset;
-        Change {
-            state: Bias {
-                settings,
-                filter_coefficient: derived.filter_coefficient,
-                timeout: derived.timeout,
-                timer: self.timer,
-                offset,
-            },
-            number: 0,
-        }
+        let mut state = self;
+        state.settings = settings;
+        state.filter_coefficient = derived.filter_coefficient;
+        state.timeout = derived.timeout;
+        Change { state, number: 0 }
     }
 
     // Whether no float of the state is a NaN or an infinity.
@@ -143,45 +149,40 @@ impl Bias {
         settings.is_finite() & number::is_finite(self.filter_coefficient) & offset.is_finite()
     }
 
+    // The number of the state's own check.
+    fn refusal(self) -> u8
+        ensures { λ r. ⌜ r ≡ refusalOf (stateChecks self) ⌝ }
+    {
+        if !self.is_finite() {
+            return 5;
+        }
+        0
+    }
+
     // The state after a reading whose corrected value is `corrected`.
     fn advanced(self, corrected: Vector) -> Bias
         ensures { λ r. ⌜ r ≡ advancedOf self corrected ⌝ }
     {
         let settings = self.settings;
-        let offset = self.offset;
         let timer = self.timer;
+        let mut next = self;
         if corrected.exceeds(settings.stationary_threshold) {
-            return Bias {
-                settings,
-                filter_coefficient: self.filter_coefficient,
-                timeout: self.timeout,
-                timer: 0,
-                offset,
-            };
+            next.timer = 0;
+            return next;
         }
         if timer < self.timeout {
-            return Bias {
-                settings,
-                filter_coefficient: self.filter_coefficient,
-                timeout: self.timeout,
-                timer: timer + 1,
-                offset,
-            };
+            next.timer = timer + 1;
+            return next;
         }
-        let grown = offset.add(corrected.mul(self.filter_coefficient));
-        Bias {
-            settings,
-            filter_coefficient: self.filter_coefficient,
-            timeout: self.timeout,
-            timer,
-            offset: grown,
-        }
+        let offset = self.offset;
+        next.offset = offset.add(corrected.mul(self.filter_coefficient));
+        next
     }
 
     // Whether the state, the corrected reading and the next state are finite. Where the offset grew, its being finite says so of all that it grew from.
     fn all_finite(self, corrected: Vector, next: Bias) -> bool
         requires { ⌜ next ≡ advancedOf self corrected ⌝ }
-        ensures { λ r. ⌜ r ≡ (finiteBias self && finiteVector corrected && finiteBias next) ⌝ }
+        ensures { λ r. ⌜ r ≡ allFinite self corrected next ⌝ }
     {
         let settings = self.settings;
         let grown = next.offset;
@@ -191,10 +192,14 @@ impl Bias {
         settings.is_finite() & grown.is_finite()
     }
 
-    // The number of a reading that is refused: 5 where something given is not finite, else 7.
-    fn refusal(self, gyroscope: Vector) -> u8
-        ensures { λ r. ⌜ r ≡ cond (finiteBias self && finiteVector gyroscope) 7 5 ⌝ }
+    // The number of a reading's checks. Only one that is refused looks at what was given: 5 where that is not finite, else 7.
+    fn reading_refusal(self, gyroscope: Vector, corrected: Vector, next: Bias) -> u8
+        requires { ⌜ Advances self gyroscope corrected next ⌝ }
+        ensures { λ r. ⌜ r ≡ refusalOf (readingChecks self gyroscope) ⌝ }
     {
+        if self.all_finite(corrected, next) {
+            return 0;
+        }
         if self.is_finite() & gyroscope.is_finite() {
             return 7;
         }
@@ -208,8 +213,8 @@ impl Bias {
         let offset = self.offset;
         let corrected = gyroscope.sub(offset);
         let next = self.advanced(corrected);
-        if !self.all_finite(corrected, next) {
-            let number = self.refusal(gyroscope);
+        let number = self.reading_refusal(gyroscope, corrected, next);
+        if number != 0 {
             return Reading {
                 state: self,
                 answer: Answer::Refused(number),
@@ -221,50 +226,47 @@ impl Bias {
         }
     }
 
+    // The number of a set offset's check.
+    fn offset_refusal(self, offset: Vector) -> u8
+        ensures { λ r. ⌜ r ≡ refusalOf (offsetChecks self offset) ⌝ }
+    {
+        if !(self.is_finite() & offset.is_finite()) {
+            return 5;
+        }
+        0
+    }
+
     // Sets the offset, and leaves the timer.
     pub fn set_offset(self, offset: Vector) -> Change
         ensures { λ r. ⌜ SetsOffset self offset r ⌝ }
     {
-        if !(self.is_finite() & offset.is_finite()) {
+        let number = self.offset_refusal(offset);
+        if number != 0 {
             return Change {
                 state: self,
-                number: 5,
+                number,
             };
         }
-        let settings = self.settings;
-        Change {
-            state: Bias {
-                settings,
-                filter_coefficient: self.filter_coefficient,
-                timeout: self.timeout,
-                timer: self.timer,
-                offset,
-            },
-            number: 0,
-        }
+        let mut state = self;
+        state.offset = offset;
+        Change { state, number: 0 }
     }
 
     // Clears the timer and the offset, and keeps the settings.
     pub fn restart(self) -> Change
         ensures { λ r. ⌜ Restarts self r ⌝ }
     {
-        if !self.is_finite() {
+        let number = self.refusal();
+        if number != 0 {
             return Change {
                 state: self,
-                number: 5,
+                number,
             };
         }
-        let settings = self.settings;
         let offset = Vector::ZERO;
-        Change {
-            state: Bias {
-                settings,
-                filter_coefficient: self.filter_coefficient,
-                timeout: self.timeout,
-                timer: 0,
-                offset,
-            },
-            number: 0,
-        }
+        let mut state = self;
+        state.timer = 0;
+        state.offset = offset;
+        Change { state, number: 0 }
     }
 }

@@ -23,8 +23,9 @@ impl Bias {
     pub fn settings(self) -> SettingsRead
         ensures { λ r. ⌜ SettingsReads self r ⌝ }
     {
-        if !self.is_finite() {
-            return SettingsRead::Refused(5);
+        let number = self.refusal();
+        if number != 0 {
+            return SettingsRead::Refused(number);
         }
         let settings = self.settings;
         SettingsRead::Read(settings)
@@ -33,8 +34,9 @@ impl Bias {
     pub fn offset(self) -> OffsetRead
         ensures { λ r. ⌜ OffsetReads self r ⌝ }
     {
-        if !self.is_finite() {
-            return OffsetRead::Refused(5);
+        let number = self.refusal();
+        if number != 0 {
+            return OffsetRead::Refused(number);
         }
         let offset = self.offset;
         OffsetRead::Read(offset)
@@ -44,8 +46,9 @@ impl Bias {
     pub fn is_active(self) -> ActiveRead
         ensures { λ r. ⌜ ActiveReads self r ⌝ }
     {
-        if !self.is_finite() {
-            return ActiveRead::Refused(5);
+        let number = self.refusal();
+        if number != 0 {
+            return ActiveRead::Refused(number);
         }
         let active = self.timer >= self.timeout;
         ActiveRead::Read(active)

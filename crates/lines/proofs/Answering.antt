@@ -13,13 +13,13 @@ use Rattle.answer.proofs.Tests.{agrees, differs, neither}
 use Rattle.answer.specs.Refusals.{Check, check, refusalOf, accepted}
 use Rattle.answer.proofs.Answering.{fails, passes, all-pass}
 use Rattle.vector.specs.Vectors.{vector}
-use Rattle.remap.specs.declared.Mounting.the-variants.{Number, Refused}
+use Rattle.remap.specs.declared.MountingRead.the-variants.{Number, Refused}
 use Rattle.remap.specs.Given.{givenOf}
 use Rattle.remap.specs.Names.{namedBy, readOf}
 use Rattle.remap.specs.Composition.{composeOf}
 use Rattle.remap.proofs.Composing.{composes}
 use Rattle.lines.specs.Rule.{firstName, secondName, lineChecks, answerOf, bothOf}
-use Rattle.lines.specs.Feeding.{Printable}
+use Rattle.lines.specs.Inner.{Printable}
 
 -- what the checks give is settled by their number
 given : (k m : ℕ) (cs : List Check) → refusalOf cs ≡ k → accepted k (Number m) (Refused k) ≡ givenOf cs m
@@ -52,19 +52,22 @@ module _ (n : ℕ) (s : List ℕ) where
   pub not-13 : (n ≡ 13 → ⊥) → Refused 1 ≡ answerOf n s
   not-13 h = malformed (rw (differs n 13 h))
 
-  pub two-names : length s ≡ 13 → (not (eqb n 13) || not (eqb (getD s 6 0) 32)) ≡ false → bothOf (readOf (take 6 s)) (readOf (take 6 (drop 7 s))) ≡ answerOf n s
+  pub two-names : length s ≡ 13 → (not (eqb n 13) || not (eqb (getD s 6 0) 32)) ≡ false
+      → bothOf (readOf (take 6 s)) (readOf (take 6 (drop 7 s))) ≡ answerOf n s
   unfolding answerOf
   two-names l h =
-      ap₂ bothOf (read-by (take 6 s) (length-take-le 6 s (omega arith))) (read-by (take 6 (drop 7 s)) (length-take-le 6 (drop 7 s) (omega (arith, length-drop 7 s))))
-      ∙ both-by (firstName s) (secondName s) _ _ refl refl
-      ∙ ap (λ (k : ℕ). accepted k (Number (composeOf (firstName s) (secondName s))) (Refused k)) (sym (passes 1 (check 4 (ltb 23 (firstName s) || ltb 23 (secondName s)) ∷ []) h))
+      let first = read-by (take 6 s) (length-take-le 6 s (omega arith)) in
+      let second = read-by (take 6 (drop 7 s)) (length-take-le 6 (drop 7 s) (omega (arith, length-drop 7 s))) in
+      ap₂ bothOf first second ∙ both-by (firstName s) (secondName s) _ _ refl refl
+      ∙ ap (λ (k : ℕ). accepted k (Number (composeOf (firstName s) (secondName s))) (Refused k))
+      (sym (passes 1 (check 4 (ltb 23 (firstName s) || ltb 23 (secondName s)) ∷ []) h))
 
 -- ---- a mounting that is answered has a name
 
 printable-by : (a b : ℕ) (t u : Bool) → (ltb 23 a || ltb 23 b) ≡ u → Printable (givenOf (check 1 t ∷ check 4 u ∷ []) (composeOf a b))
 unfolding refusalOf
-printable-by a b true u e = tt
-printable-by a b false true e = tt
+printable-by a b true u e = omega arith
+printable-by a b false true e = omega arith
 printable-by a b false false e =
     let o = neither (ltb 23 a) (ltb 23 b) e in
     let h = ltb-false 23 a (o .0) in

@@ -75,13 +75,15 @@ total-printed : (bs : List ℕ) (l : Line) (p : List ℕ) → Holds l p → tota
 unfolding total textAfter lineAfter printed
 total-printed [] l p h = holds-last h
 total-printed (b ∷ bs) l p h =
-    total-next l b bs ∙ go (eqb b 10) refl (total-printed bs freshLine [] holds-fresh) (λ g. total-printed bs (keptOf l b) (p ++ (b ∷ [])) (holds-next b g h))
+    total-next l b bs
+    ∙ go (eqb b 10) refl (total-printed bs freshLine [] holds-fresh) (λ g. total-printed bs (keptOf l b) (p ++ (b ∷ [])) (holds-next b g h))
   where
     go : (t : Bool) → eqb b 10 ≡ t → total freshLine bs ≡ printed [] bs → ((b ≡ 10 → ⊥) → total (keptOf l b) bs ≡ printed (p ++ (b ∷ [])) bs)
         → printOf l b ++ total (keptOf l b) bs ≡ cond t (lineText (length p) p ++ printed [] bs) (printed (p ++ (b ∷ [])) bs)
     go true e line on =
         let g : b ≡ 10 = eqb-true b 10 e in
-        ap₂ (λ (x : List ℕ) (m : Line). x ++ total m bs) (sym (answered l b g) ∙ holds-text h) (sym (ended l b g)) ∙ ap (λ (x : List ℕ). lineText (length p) p ++ x) line
+        ap₂ (λ (x : List ℕ) (m : Line). x ++ total m bs) (sym (answered l b g) ∙ holds-text h) (sym (ended l b g))
+        ∙ ap (λ (x : List ℕ). lineText (length p) p ++ x) line
     go false e line on =
         let g : b ≡ 10 → ⊥ = eqb-false b 10 e in
         ap (λ (x : List ℕ). x ++ total (keptOf l b) bs) (sym (silent l b g)) ∙ on g

@@ -14,7 +14,7 @@ use Rattle.text.proofs.Feeding.{fed}
 use Rattle.lines.specs.declared.Line.{Line}
 use Rattle.lines.specs.declared.Fed.{Fed}
 use Rattle.lines.specs.Machine.{keptOf, printOf, lineAfter, textAfter}
-use Rattle.lines.specs.Feeding.{Takes}
+use Rattle.lines.specs.Inner.{Takes}
 use Rattle.lines.proofs.Keeping.{print-short}
 
 line-snoc : (l : Line) (s : List ℕ) (b : ℕ) → lineAfter l (s ++ (b ∷ [])) ≡ keptOf (lineAfter l s) b
@@ -52,14 +52,17 @@ module _ (s old : List ℕ) (l : Line) (out : List ℕ) (f : Fed) (i : ℕ) (g :
         long = same ∙ g .long;
         number = t .number;
         line = t .line ∙ ap (λ (x : Line). keptOf x b) (g .line) ∙ sym (line-snoc l (take i s) b) ∙ ap (lineAfter l) (sym snoc);
-        count = t .count ∙ ap (λ (k : ℕ). k + length (printOf (f .line) b)) (g .count) ∙ sym (ap length text ∙ length-append (textAfter l (take i s)) (printOf (f .line) b));
+        count =
+            t .count ∙ ap (λ (k : ℕ). k + length (printOf (f .line) b)) (g .count)
+            ∙ sym (ap length text ∙ length-append (textAfter l (take i s)) (printOf (f .line) b));
         holds =
             t .holds
             ∙ ap₂ (λ (k : ℕ) (x : List ℕ). take k x ++ over (printOf (f .line) b) (drop k x)) (g .count) (g .holds)
             ∙ over-over (textAfter l (take i s)) (printOf (f .line) b) old ∙ ap (λ (x : List ℕ). over x old) (sym text);
       }
 
-  pub feed-all : (cs : List Check) → refusalOf cs ≡ 0 → length s ≤ i → Feeds cs l (lineAfter l s) (textAfter l s) old out (f .line) (f .n) (f .refusal)
+  pub feed-all : (cs : List Check) → refusalOf cs ≡ 0 → length s ≤ i
+      → Feeds cs l (lineAfter l s) (textAfter l s) old out (f .line) (f .n) (f .refusal)
   feed-all cs e h =
       let whole : take i s ≡ s = take-all i s h in
       fed cs l (lineAfter l s) (textAfter l s) old e (g .number) (g .line ∙ ap (lineAfter l) whole)

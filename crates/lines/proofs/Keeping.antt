@@ -7,13 +7,15 @@ use mathlib.Core.List.{List, []}
 use lib.Dec.{eqb}
 use lib.ListN.{length, set}
 use borrow.Author.Tests.{lt-ltb, le-ltb, eq-eqb, ne-eqb}
-use Rattle.text.specs.Text.{refusedOf}
+use Rattle.text.proofs.Refused.{ten}
 use Rattle.lines.specs.declared.Line.{Line}
-use Rattle.remap.specs.declared.Mounting.{Mounting}
-use Rattle.remap.specs.declared.Mounting.the-variants.{Number, Refused}
+use Rattle.remap.specs.declared.MountingRead.{MountingRead}
+use Rattle.remap.specs.declared.MountingRead.the-variants.{Number, Refused}
 use Rattle.remap.specs.Names.{nameOf}
 use Rattle.lines.specs.Rule.{answerOf, textOf, lineText, lastOf}
 use Rattle.lines.specs.Machine.{line, freshLine, keptOf, printOf}
+use Rattle.lines.specs.Inner.{Printable}
+use Rattle.lines.proofs.Answering.{printable}
 
 module _ (l : Line) (b : ℕ) where
   pub ended : b ≡ 10 → freshLine ≡ keptOf l b
@@ -47,15 +49,15 @@ module _ (n : ℕ) (s : List ℕ) where
 
 -- ---- at most 10 bytes are printed for a byte
 
-text-short : (a : Mounting) → length (textOf a) ≤ 10
-unfolding textOf nameOf refusedOf
-text-short (Number m) = omega arith
-text-short (Refused n) = omega arith
+text-short : (a : MountingRead) → Printable a → length (textOf a) ≤ 10
+unfolding textOf nameOf
+text-short (Number m) h = omega arith
+text-short (Refused n) h = omega (arith, ten n h)
 
 pub print-short : (l : Line) (b : ℕ) → length (printOf l b) ≤ 10
 unfolding printOf
 print-short l b = go (eqb b 10)
   where
     go : (t : Bool) → length (cond t (lineText (l .n) (l .text)) []) ≤ 10
-    go true = text-short (answerOf (l .n) (l .text))
+    go true = text-short (answerOf (l .n) (l .text)) (printable (l .n) (l .text))
     go false = omega arith

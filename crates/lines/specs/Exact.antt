@@ -1,7 +1,8 @@
 -- 01, "The refusal table", and "What we will read in the promises": each number is given exactly when its row says, and a result is the only one.
 use Prim.Native.Nat.{ℕ}
 use mathlib.Core.List.{List}
-use Rattle.answer.specs.Refusals.{Exactly, OneLent}
+use Rattle.answer.specs.Refusals.{Exactly}
+use Rattle.answer.specs.Promises.{OneLent}
 use Rattle.lines.specs.declared.Line.{Line}
 use Rattle.lines.specs.Rule.{lineChecks}
 use Rattle.lines.specs.Feeding.{feedChecks, lastChecks, PartFed, LastFed}

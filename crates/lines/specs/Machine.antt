@@ -5,6 +5,7 @@ use mathlib.Core.Bool.{cond}
 use mathlib.Core.List.{List, []}
 use lib.Dec.{eqb, ltb}
 use lib.ListN.{set, replicate}
+use Rattle.text.specs.Text.{newline}
 use Rattle.wire.specs.Stream.{joined, after, gives, givesParts}
 use Rattle.lines.specs.declared.Line.{Line}
 use Rattle.lines.specs.Rule.{lineText, lastOf, printed}
@@ -17,11 +18,11 @@ freshLine = line 0 (replicate 13 0)
 
 -- a newline ends the line; any other byte is kept, or only counted where there are 13: 14 stands for any more
 unfoldable pub keptOf : Line → ℕ → Line
-keptOf l b = cond (eqb b 10) freshLine (cond (ltb (l .n) 13) (line (l .n + 1) (set (l .text) (l .n) b)) (line 14 (l .text)))
+keptOf l b = cond (eqb b newline) freshLine (cond (ltb (l .n) 13) (line (l .n + 1) (set (l .text) (l .n) b)) (line 14 (l .text)))
 
 -- what a byte prints
 unfoldable pub printOf : Line → ℕ → List ℕ
-printOf l b = cond (eqb b 10) (lineText (l .n) (l .text)) []
+printOf l b = cond (eqb b newline) (lineText (l .n) (l .text)) []
 
 -- the line after some bytes, and what they have printed
 unfoldable pub lineAfter : Line → List ℕ → Line

@@ -1,14 +1,15 @@
 // The mountings program without its reads and writes. A line of input is two names with one space between; what is
 // printed for it is the name of "first then second", or a refusal. The bytes are fed one by one, so that where the
 // input is cut into parts changes nothing.
-use remap::Mounting;
+use remap::MountingRead;
 ghost use mathlib.Core.Path.{_≡_};
 ghost use Prim.Native.Nat.{_+_, _≤_};
 ghost use lib.ListN.{length};
 ghost use Rattle.text.specs.Putting.{Puts};
 ghost use Rattle.lines.specs.Rule.{answerOf, bothOf, textOf, lineText};
 ghost use Rattle.lines.specs.Machine.{freshLine, keptOf, printOf};
-ghost use Rattle.lines.specs.Feeding.{Printable, Takes, PartFed, LastFed};
+ghost use Rattle.lines.specs.Feeding.{PartFed, LastFed};
+ghost use Rattle.lines.specs.Inner.{Printable, Takes};
 
 // The bytes of a line that is not ended, at most 13 of them; n is how many came, 14 for any more.
 pub struct Line {
@@ -34,24 +35,24 @@ pub fn fresh() -> Line
 }
 
 // "First then second" of two names that were read.
-fn both(first: Mounting, second: Mounting) -> Mounting
+fn both(first: MountingRead, second: MountingRead) -> MountingRead
     ensures { λ r. ⌜ r ≡ bothOf first second ⌝ }
 {
     match first {
-        Mounting::Number(a) => match second {
-            Mounting::Number(b) => remap::compose(a, b),
-            Mounting::Refused(_) => Mounting::Refused(4),
+        MountingRead::Number(a) => match second {
+            MountingRead::Number(b) => remap::compose(a, b),
+            MountingRead::Refused(_) => MountingRead::Refused(4),
         },
-        Mounting::Refused(_) => Mounting::Refused(4),
+        MountingRead::Refused(_) => MountingRead::Refused(4),
     }
 }
 
 // The answer to a line of n bytes.
-fn answer(n: usize, text: [u8; 13]) -> Mounting
+fn answer(n: usize, text: [u8; 13]) -> MountingRead
     ensures { λ r. ⌜ r ≡ answerOf n text ⌝ }
 {
     if (n != 13) | (text[6] != b' ') {
-        return Mounting::Refused(1);
+        return MountingRead::Refused(1);
     }
     let first = remap::read_name(&text[..6]);
     let second = remap::read_name(&text[7..13]);
@@ -75,31 +76,24 @@ fn kept(line: Line, byte: u8) -> Line
 }
 
 fn put_name(mounting: u8, out: &mut [u8]) -> usize
-    requires { ⌜ Printable (Mounting.Number mounting) ⌝ }
+    requires { ⌜ Printable (MountingRead.Number mounting) ⌝ }
     requires { ⌜ 10 ≤ length (now out) ⌝ }
-    ensures { λ r. ⌜ Puts (textOf (Mounting.Number mounting)) (now (out .entry)) (now (out .exit)) r ⌝ }
+    ensures { λ r. ⌜ Puts (textOf (MountingRead.Number mounting)) (now (out .entry)) (now (out .exit)) r ⌝ }
 {
     remap::write_name(mounting, &mut out[..6]);
     out[6] = b'\n';
     7
 }
 
-fn put_refused(number: u8, out: &mut [u8]) -> usize
-    requires { ⌜ 10 ≤ length (now out) ⌝ }
-    ensures { λ r. ⌜ Puts (textOf (Mounting.Refused number)) (now (out .entry)) (now (out .exit)) r ⌝ }
-{
-    bytes::copy(&text::refused(number), out)
-}
-
 // Puts an answer's line at the start of `out`; how many bytes it is.
-fn put(answer: Mounting, out: &mut [u8]) -> usize
+fn put(answer: MountingRead, out: &mut [u8]) -> usize
     requires { ⌜ Printable answer ⌝ }
     requires { ⌜ 10 ≤ length (now out) ⌝ }
     ensures { λ r. ⌜ Puts (textOf answer) (now (out .entry)) (now (out .exit)) r ⌝ }
 {
     match answer {
-        Mounting::Number(mounting) => put_name(mounting, out),
-        Mounting::Refused(number) => put_refused(number, out),
+        MountingRead::Number(mounting) => put_name(mounting, out),
+        MountingRead::Refused(number) => text::put_refused(number, out),
     }
 }
 

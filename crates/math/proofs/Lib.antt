@@ -1,2 +1,3 @@
-pub mod Shows
+-- in reading order
+pub mod Shows  -- a finite quaternion shows finite operands
 mod Wrong

@@ -54,4 +54,5 @@ product-shows q v h =
     let (a, b, c, d) = components (vectorProductOf q v) h in
     let all = sub-finite binary32 (neg (q .x) ⊗ v .x ⊖ q .y ⊗ v .y) (q .z ⊗ v .z) a in
     let two = sub-finite binary32 (neg (q .x) ⊗ v .x) (q .y ⊗ v .y) (all .0) in
-    whole-vector v (mul-finite binary32 (neg (q .x)) (v .x) (two .0) .1) (mul-finite binary32 (q .y) (v .y) (two .1) .1) (mul-finite binary32 (q .z) (v .z) (all .1) .1)
+    whole-vector v (mul-finite binary32 (neg (q .x)) (v .x) (two .0) .1) (mul-finite binary32 (q .y) (v .y) (two .1) .1)
+    (mul-finite binary32 (q .z) (v .z) (all .1) .1)

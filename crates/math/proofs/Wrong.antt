@@ -7,7 +7,7 @@ use lib.Count.{leadingZeros}
 use lib.IntN.{pos, negsuc}
 use lib.ListN.{getD}
 use lib.Ieee.{Float, nan, inf, fin, ofBits, toBits, eq, add, sub, mul, div, neg, sum, round, units, odd}
-use Rattle.number.proofs.Apart.{apart, bits}
+use Rattle.number.proofs.Apart.{apart, bits, nought, minus-nought, one, two, half}
 use Rattle.root.specs.Root.{floorRoot, nearestRootOf, significandOf, exponentOf, squaredOf, rootBitsOf, sqrtOf}
 use Rattle.vector.specs.declared.Vector.{Vector}
 use Rattle.vector.specs.Vectors.{vector}
@@ -19,26 +19,11 @@ use Rattle.math.specs.Quaternions as quaternions
 use Rattle.math.specs.Quaternions.{quaternion, finiteQuaternion, sumOf, hadamardOf, vectorProductOf, conjugateOf, normSquaredOf, normOf, normalizeOf}
 use Rattle.math.specs.Quaternions.{toMatrixOf, rotateOf, addOf, productOf, fromArrayOf, toArrayOf}
 
-abbrev nought : Float
-nought = fin false 0 (pos 0)
-
-abbrev minus-nought : Float
-minus-nought = fin true 0 (pos 0)
-
-abbrev one : Float
-one = fin false 1 (pos 0)
-
-abbrev two : Float
-two = fin false 1 (pos 1)
-
 abbrev four : Float
 four = fin false 1 (pos 2)
 
 abbrev eight : Float
 eight = fin false 1 (pos 3)
-
-abbrev half : Float
-half = fin false 1 (negsuc 0)
 
 -- ---- matrices
 

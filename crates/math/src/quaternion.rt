@@ -2,7 +2,8 @@
 use super::matrix::Matrix;
 use vector::Vector;
 ghost use mathlib.Core.Path.{_≡_};
-ghost use Rattle.math.specs.Quaternions.{quaternion, finiteQuaternion, eqOf, sumOf, hadamardOf, vectorProductOf, conjugateOf, normSquaredOf, normOf, normalizeOf, toMatrixOf, rotateOf, addOf, mulOf, productOf, fromArrayOf, toArrayOf};
+ghost use Rattle.math.specs.Quaternions.{quaternion, finiteQuaternion, eqOf, sumOf, hadamardOf, vectorProductOf, conjugateOf, normSquaredOf};
+ghost use Rattle.math.specs.Quaternions.{normOf, normalizeOf, toMatrixOf, rotateOf, addOf, mulOf, productOf, fromArrayOf, toArrayOf};
 
 pub struct Quaternion {
     pub w: f32,

@@ -1,10 +1,11 @@
-pub mod Signs
-pub mod Same
-pub mod Size
-pub mod Finite
-pub mod Unsigned
-pub mod Signed
-pub mod Quotient
-pub mod Range
-pub mod Apart
+-- in reading order
+pub mod Signs  -- the operations under a change of sign
+pub mod Same  -- floats that are the same number give results that are; on Signs
+pub mod Size  -- what the tests of `fabsf`, `is_larger` and `is_finite` say
+pub mod Finite  -- a finite sum, difference or product shows finite operands
+pub mod Quotient  -- the quotient of two whole numbers is finite
+pub mod Unsigned  -- what the tests of `to_u32` say
+pub mod Signed  -- a float against the ends of 32 bits, and what it is cut to
+pub mod Range  -- the range of signed numbers
+pub mod Apart  -- values told apart by a code, for each crate's `Wrong`
 mod Wrong

@@ -1,5 +1,4 @@
--- Laws of `Same`: every operation and every test takes floats that are the same number to results that are.
--- Assumes nothing.
+-- Laws of `Same`: every operation and every test takes floats that are the same number to results that are. Assumes nothing.
 use mathlib.Core.Path.{_≡_, refl, ap, ap₂, sym, _∙_}
 use mathlib.Core.Bool.{Bool, true, false, _&&_, _||_, Bool·beq, or-true}
 use Prim.Native.Nat.{ℕ, zero, suc, _-_, _*_}

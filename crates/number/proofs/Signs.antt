@@ -1,5 +1,4 @@
--- Laws of the float operations under a change of sign, which holds of sums but for the sign of a zero (`Like`).
--- Assumes nothing.
+-- Laws of the float operations under a change of sign, which holds of sums but for the sign of a zero (`Like`). Assumes nothing.
 use mathlib.Core.Path.{_≡_, refl, ap, _∙_}
 use mathlib.Core.Bool.{Bool, true, false, not, cond}
 use Prim.Native.Nat.{ℕ, zero, suc, _+_, _-_, _*_, _^_, _≤_, compare, compare·zero-zero, compare·zero-suc}

@@ -1,5 +1,4 @@
--- What the tests of `fabsf` and of `is_finite` say of a float; and that two finite floats that are `Same` compare as equal.
--- Assumes nothing.
+-- What the tests of `fabsf` and of `is_finite` say of a float; and that two finite floats that are `Same` compare as equal. Assumes nothing.
 use mathlib.Core.Path.{_≡_, refl, ap, sym, _∙_, subst}
 use mathlib.Core.Bool.{Bool, true, false, not, _&&_, _||_, Bool·beq, cond, true≢false, false≢true}
 use Prim.Native.Nat.{ℕ, zero, suc, _+_, _-_, _*_, _^_, _<_}
@@ -58,7 +57,8 @@ fabsf-nought (fin s (suc m) e) t h =
 -- of a negative number either test passes
 one-passes : (a b : ℕ) → b ≡ 0 → ltb 0 (a + b) ≡ false → (eqb a b && eqb a 0) ≡ false → ⊥
 one-passes zero b z h k = true≢false (rw z at k)
-one-passes (suc a) b z h k = true≢false (sym (leb·suc-suc 0 a ∙ leb·zero a) ∙ ap (λ (n : ℕ). ltb 0 n) (sym (add-zero (suc a)) ∙ ap (λ (n : ℕ). suc a + n) (sym z)) ∙ h)
+one-passes (suc a) b z h k =
+    true≢false (sym (leb·suc-suc 0 a ∙ leb·zero a) ∙ ap (λ (n : ℕ). ltb 0 n) (sym (add-zero (suc a)) ∙ ap (λ (n : ℕ). suc a + n) (sym z)) ∙ h)
 
 pub fabsf-other : (x : Float) → lt x nought ≡ false → eq x nought ≡ false → x ≡ fabsfOf x
 unfolding lt eq fabsfOf
@@ -75,7 +75,8 @@ not-negative nan h = record { number = refl }
 not-negative (inf true) h = absurd (true≢false h)
 not-negative (inf false) h = record { number = refl }
 not-negative (fin true zero e) h = record { number = refl }
-not-negative (fin true (suc m) e) h = absurd (true≢false (sym (lt-ltb 0 (suc m * up e * 1 + 0 * down e) (above _ _ (mul-pos (mul-pos (zero-lt-suc m) (up-pos e)) (zero-lt-suc 0)))) ∙ h))
+not-negative (fin true (suc m) e) h =
+    absurd (true≢false (sym (lt-ltb 0 (suc m * up e * 1 + 0 * down e) (above _ _ (mul-pos (mul-pos (zero-lt-suc m) (up-pos e)) (zero-lt-suc 0)))) ∙ h))
   where
     above : (a b : ℕ) → 0 < a → 0 < a + b
     above a b h = omega arith

@@ -1,19 +1,19 @@
--- What an accepted record has, and that this is all it needs. Assumes nothing.
+-- What an accepted record has, and that this is all it needs; and what an accepted write has. Assumes nothing.
 use Prim.Native.Nat.{ℕ, _<_}
 use native.Mathlib.Omega.{arith}
-use mathlib.Core.Path.{_≡_, ap, sym, _∙_}
-use mathlib.Core.Bool.{Bool, true, not, _&&_, _||_}
-use mathlib.Core.List.{List}
+use mathlib.Core.Path.{_≡_, ap, ap₂, _∙_}
+use mathlib.Core.Bool.{Bool, true, false, not, _&&_, _||_}
+use mathlib.Core.List.{List, [], _∷_}
 use lib.Dec.{ltb, eqb}
 use lib.ListN.{length}
 use borrow.Author.Tests.{eqb-true, ltb-false, le-ltb}
-use Rattle.answer.proofs.Tests.{both, neither}
-use Rattle.answer.specs.Refusals.{refusalOf, accepted}
-use Rattle.answer.proofs.Answering.{passed, unfailed}
+use Rattle.answer.specs.Refusals.{check, refusalOf, accepted}
+use Rattle.answer.proofs.Tests.{agrees, both, neither}
+use Rattle.answer.proofs.Answering.{passes, all-pass, passed, unfailed}
 use Rattle.vector.specs.Vectors.{finiteVector}
 use Rattle.wire.specs.Wire.{u16At}
-use Rattle.offset.specs.Record.{hasMark, mountingAt, vectorAt, recordChecks}
-use Rattle.offset.proofs.Checking.{unrefused}
+use Rattle.offset.specs.declared.Offset.{Offset}
+use Rattle.offset.specs.Record.{hasMark, mountingAt, vectorAt, recordChecks, writeChecks}
 
 pub record Good (s : List ℕ) (m : ℕ) (f : Bool) : Type 0 where
   pub size : length s ≡ 18
@@ -25,6 +25,13 @@ pub record Good (s : List ℕ) (m : ℕ) (f : Bool) : Type 0 where
   pub floats : finiteVector (vectorAt s) ≡ true
 
 -- ---- the record's checks all pass exactly where it is good
+
+-- of the right size, mark and version: 4 and 5 are left
+pub shaped : (s : List ℕ) (m : ℕ) (f : Bool) → length s ≡ 18 → not (hasMark s) ≡ false → u16At s 3 ≡ 1
+    → refusalOf (recordChecks s m f)
+    ≡ refusalOf (check 4 (ltb 23 m || ltb 23 (mountingAt s)) ∷ check 5 (not (f && finiteVector (vectorAt s))) ∷ [])
+unfolding recordChecks
+shaped s m f size mark version = passes 1 _ (agrees (length s) 18 size) ∙ passes 2 _ mark ∙ passes 3 _ (agrees (u16At s 3) 1 version)
 
 pub good : (s : List ℕ) (m : ℕ) (f : Bool) → refusalOf (recordChecks s m f) ≡ 0 → Good s m f
 unfolding recordChecks
@@ -48,10 +55,27 @@ good s m f e₁ =
 
 pub good-passes : (s : List ℕ) (m : ℕ) (f : Bool) → Good s m f → refusalOf (recordChecks s m f) ≡ 0
 good-passes s m f g =
-    sym
-    (unrefused s m f (g .size) (ap not (g .mark)) (g .version)
-    (rw (le-ltb 23 m (omega (arith, g .other)), le-ltb 23 (mountingAt s) (omega (arith, g .mounting))))
-    (sym (g .floats)) (ap (λ (b : Bool). not (b && true)) (g .state)))
+    shaped s m f (g .size) (ap not (g .mark)) (g .version)
+    ∙ passes 4 _ (rw (le-ltb 23 m (omega (arith, g .other)), le-ltb 23 (mountingAt s) (omega (arith, g .mounting))))
+    ∙ passes 5 _ (ap not (ap₂ _&&_ (g .state) (g .floats)))
+    ∙ all-pass
+
+-- ---- a write's
+
+pub record Writable (o : Offset) (room : ℕ) : Type 0 where
+  pub size : room ≡ 18
+  pub mounting : o .mounting < 24
+  pub floats : finiteVector (o .vector) ≡ true
+
+pub writable : (o : Offset) (room : ℕ) → refusalOf (writeChecks o room) ≡ 0 → Writable o room
+writable o room e =
+    let p₁ = passed 0 (eqb room 18) _ e in
+    let p₄ = unfailed 3 (ltb 23 (o .mounting)) _ (p₁ .1) in
+    record {
+      size = eqb-true room 18 (p₁ .0);
+      mounting = omega (arith, ltb-false 23 (o .mounting) (p₄ .0));
+      floats = passed 4 (finiteVector (o .vector)) [] (p₄ .1) .0;
+    }
 
 -- ---- what a call that is not refused leaves
 

@@ -1,13 +1,12 @@
-pub mod Accepting
-pub mod Bench
-pub mod Checking
-pub mod Determined
-pub mod Once
-pub mod Reading
-pub mod ReadWritten
-pub mod Refusing
-pub mod Restored
-pub mod Storing
-pub mod Turning
-mod Wrong
-pub mod WrittenRead
+-- in reading order
+pub mod Accepting  -- what an accepted record has, and an accepted write
+pub mod Refusing  -- of every call each number is given exactly when its row says
+pub mod Determined  -- a promise has one result
+pub mod Storing  -- the stores into 18 bytes leave the record
+pub mod ReadWritten  -- what was written is read; on Accepting
+pub mod WrittenRead  -- what was read is written; on Accepting
+pub mod Turning  -- a vector that was checked is turned, and stays finite
+pub mod Restored  -- setting the turned offset is the restore; on Accepting and Turning
+pub mod Once  -- twice equals once, and changes the offset alone; on Accepting and Turning
+pub mod Bench  -- the record's row of the bench table
+mod Wrong  -- wrong answers that the promises refuse

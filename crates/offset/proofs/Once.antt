@@ -22,7 +22,8 @@ module _ (b : Bias) (s : List ℕ) (m : ℕ) where
   restored-finite : finiteBias b ≡ true → finiteVector (vectorAt s) ≡ true → finiteBias (restoredOf b s m) ≡ true
   unfolding finiteBias
   restored-finite h k =
-      ap₂ _&&_ (both (finiteSettings (b .settings) && finite (b .«filter_coefficient»)) (finiteVector (b .offset)) h .0) (finite-reframed (vectorAt s) (mountingAt s) m ∙ k)
+      let fixed = both (finiteSettings (b .settings) && finite (b .«filter_coefficient»)) (finiteVector (b .offset)) h .0 in
+      ap₂ _&&_ fixed (finite-reframed (vectorAt s) (mountingAt s) m ∙ k)
 
   -- so the same record is accepted again
   accepted-again : refusalOf (restoreChecks b s m) ≡ 0 → refusalOf (restoreChecks (restoredOf b s m) s m) ≡ 0

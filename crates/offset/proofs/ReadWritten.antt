@@ -3,59 +3,47 @@ use Prim.Native.Nat.{ℕ}
 use native.Mathlib.Omega.{arith}
 use mathlib.Core.Path.{_≡_, refl, ap, sym, subst, _∙_}
 use mathlib.Core.Bool.{true}
-use mathlib.Core.List.{List, []}
-use lib.Dec.{eqb}
+use mathlib.Core.List.{List}
 use lib.ListN.{length}
 use lib.Ieee.{binary32, toBits}
 use lib.Ieee.Bits.{ofBits-toBits}
-use borrow.Author.Tests.{ltb-false}
-use Rattle.answer.specs.Refusals.{refusalOf}
-use Rattle.answer.proofs.Answering.{passed, unfailed}
 use Rattle.vector.specs.Vectors.{finiteVector}
 use Rattle.wire.proofs.Laws.{digits}
 use Rattle.offset.specs.declared.Offset.{Offset}
 use Rattle.offset.specs.declared.RecordRead.the-variants.{Read}
-use Rattle.offset.specs.Record.{hasMark, vectorAt, offsetAt, recordOf, writeChecks, Reads}
+use Rattle.offset.specs.Record.{hasMark, vectorAt, offsetAt, recordOf, Reads}
 use Rattle.offset.specs.RoundTrip.{Singles, ReadWritten}
-use Rattle.offset.proofs.Accepting.{Good, good-passes, is-new}
+use Rattle.offset.proofs.Accepting.{Good, good-passes, Writable, writable, is-new}
 
 module _ (o : Offset) (f : Singles (o .vector)) where
   same-vector : vectorAt (recordOf o) ≡ o .vector
   unfolding recordOf vectorAt
   same-vector =
-      simp (
-        digits (toBits binary32 (o .vector .x)),
-        digits (toBits binary32 (o .vector .y)),
-        digits (toBits binary32 (o .vector .z)),
-        ofBits-toBits binary32 (o .vector .x) (f .x),
-        ofBits-toBits binary32 (o .vector .y) (f .y),
-        ofBits-toBits binary32 (o .vector .z) (f .z),
-      )
+      simp (digits (toBits binary32 (o .vector .x)), digits (toBits binary32 (o .vector .y)), digits (toBits binary32 (o .vector .z)))
+      (simp (ofBits-toBits binary32 (o .vector .x) (f .x), ofBits-toBits binary32 (o .vector .y) (f .y))
+      (simp (ofBits-toBits binary32 (o .vector .z) (f .z))))
 
   same-offset : offsetAt (recordOf o) ≡ o
   unfolding recordOf
   same-offset = λ i. record { mounting = o .mounting; vector = same-vector i }
 
   -- what was written is accepted
-  written-good : (s : List ℕ) → refusalOf (writeChecks o s) ≡ 0 → Good (recordOf o) 0 true
+  written-good : {room : ℕ} → Writable o room → Good (recordOf o) 0 true
   unfolding recordOf hasMark
-  written-good s e =
-      let p₁ = passed 0 (eqb (length s) 18) _ e in
-      let p₄ = unfailed 3 _ _ (p₁ .1) in
-      let p₅ = passed 4 (finiteVector (o .vector)) [] (p₄ .1) in
+  written-good w =
       record {
         size = refl;
         mark = refl;
         version = refl;
         other = omega arith;
-        mounting = omega (arith, ltb-false 23 (o .mounting) (p₄ .0));
+        mounting = w .mounting;
         state = refl;
-        floats = ap finiteVector same-vector ∙ p₅ .0;
+        floats = ap finiteVector same-vector ∙ w .floats;
       }
 
 pub read-written : ReadWritten
 read-written o s after r f w e =
     let there : after ≡ recordOf o = is-new _ _ (w .holds) (sym (w .number)) in
     let e′ = subst (λ (t : List ℕ). Reads t r) there e in
-    let z = good-passes (recordOf o) 0 true (written-good o f s (sym (w .number))) in
+    let z = good-passes (recordOf o) 0 true (written-good o f (writable o (length s) (sym (w .number)))) in
     is-new _ _ (e′ .exact) z ∙ ap Read (same-offset o f)

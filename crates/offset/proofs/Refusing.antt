@@ -10,7 +10,7 @@ pub exactly-when : ExactlyWhen
 unfolding ascends recordChecks
 exactly-when =
     record {
-      write-offset = λ o s. by-the-table (writeChecks o s) tt;
+      write-offset = λ o room. by-the-table (writeChecks o room) tt;
       read-offset = λ s. by-the-table (recordChecks s 0 true) tt;
       restore = λ b s m. by-the-table (recordChecks s m (finiteBias b)) tt;
     }

@@ -1,10 +1,10 @@
--- What each return of a restore has to show, from the tests that led to it. Assumes nothing.
-use Prim.Native.Nat.{ℕ, zero, suc, _<_}
-use mathlib.Core.Path.{_≡_, refl, ap, sym, subst, _∙_}
+-- What an accepted restore needs of its calls, and that setting the turned offset is it. Assumes nothing.
+use Prim.Native.Nat.{ℕ, _<_}
+use mathlib.Core.Path.{_≡_, ap, sym, subst, _∙_}
 use mathlib.Core.Bool.{Bool, true}
 use mathlib.Core.List.{List, []}
 use Rattle.answer.specs.Refusals.{refusalOf, accepted}
-use Rattle.answer.proofs.Answering.{passes, all-pass, keeps}
+use Rattle.answer.proofs.Answering.{passes, all-pass}
 use Rattle.vector.specs.declared.Vector.{Vector}
 use Rattle.vector.specs.Vectors.{finiteVector}
 use Rattle.bias.specs.declared.Bias.{Bias}
@@ -19,15 +19,8 @@ use Rattle.offset.proofs.Turning.{finite-reframed}
 
 -- f is whether the state is finite, n the refusal
 module _ (b : Bias) (s : List ℕ) (m : ℕ) {f : Bool} {n : ℕ} (ef : f ≡ finiteBias b) (en : n ≡ refusalOf (recordChecks s m f)) where
-  number : n ≡ refusalOf (restoreChecks b s m)
+  pub number : n ≡ refusalOf (restoreChecks b s m)
   number = en ∙ ap (λ (g : Bool). refusalOf (recordChecks s m g)) ef
-
-  pub kept : (n ≡ 0 → ⊥) → Restores b s m (record { state = b; number = n })
-  kept h = by n number h
-    where
-      by : (k : ℕ) → k ≡ refusalOf (restoreChecks b s m) → (k ≡ 0 → ⊥) → Restores b s m (record { state = b; number = k })
-      by zero p g = absurd (g refl)
-      by (suc k) p g = keeps (restoreChecks b s m) (restoredOf b s m) b k (sym p)
 
   module _ (z : n ≡ 0) where
     pub checked : Good s m (finiteBias b)

@@ -10,7 +10,8 @@ use types.Run.{OneOf, miss}
 use borrow.Author.Tests.{le-ltb}
 use Rattle.answer.specs.declared.Answer.{Answer}
 use Rattle.answer.specs.declared.Answer.the-variants.{Turned}
-use Rattle.answer.specs.Answers.{Answers, valuesOf}
+use Rattle.answer.specs.Answers.{valuesOf}
+use Rattle.answer.specs.Promises.{Answers}
 use Rattle.answer.proofs.Answer.{the-type}
 use Rattle.answer.proofs.Answering.{passes, all-pass}
 use Rattle.vector.specs.declared.Vector.{Vector}
@@ -18,8 +19,8 @@ use Rattle.vector.specs.Vectors.{vector, finiteVector, fromArrayOf}
 use Rattle.vector.specs.Mounting.{mountingOf, turnOf}
 use Rattle.vector.specs.Turned.{turnChecks, turnedAnswer}
 use Rattle.vector.proofs.Turning.{each-permutes, turned-turn, finite-turned}
-use Rattle.remap.specs.declared.Mounting.{Mounting}
-use Rattle.remap.specs.declared.Mounting.the-variants.{Number, Refused}
+use Rattle.remap.specs.declared.MountingRead.{MountingRead}
+use Rattle.remap.specs.declared.MountingRead.the-variants.{Number, Refused}
 use Rattle.remap.specs.Composition.{inverseOf, inverseChecks}
 use Rattle.remap.specs.Given.{Gives}
 use Rattle.remap.proofs.Composing.{undone}
@@ -46,7 +47,7 @@ turn-finite m v = finite-turned (mountingOf m) (each-permutes m) (turned-turn (m
 
 -- ---- undone, and then turned
 
-module _ {n : ℕ} {r : Mounting} (h : n < 24) (g : Gives (inverseChecks n) (inverseOf n) r) where
+module _ {n : ℕ} {r : MountingRead} (h : n < 24) (g : Gives (inverseChecks n) (inverseOf n) r) where
   is-inverse : r ≡ Number (inverseOf n)
   is-inverse = is-new _ _ (g .exact) (passes 4 _ (le-ltb 23 n (omega arith)) ∙ all-pass)
 

@@ -15,7 +15,7 @@ use Rattle.answer.proofs.Tests.{agrees, all-three}
 use Rattle.answer.specs.Refusals.{refusalOf}
 use Rattle.answer.proofs.Answering.{passes, all-pass}
 use Rattle.vector.specs.Vectors.{finiteVector}
-use Rattle.wire.specs.Wire.{bitsAt}
+use Rattle.wire.specs.Wire.{bitsAt, floatOf}
 use Rattle.wire.proofs.Laws.{finite-no-nan, spell, spelled}
 use Rattle.offset.specs.declared.Offset.{Offset}
 use Rattle.offset.specs.declared.RecordRead.the-variants.{Read}
@@ -50,7 +50,7 @@ module _ (s : List ℕ) (bytes : Bytes s) where
   unfolding recordOf hasMark vectorAt finiteVector
   record-back g =
       let m = all-three (eqb (getD s 0 0) 0x47) (eqb (getD s 1 0) 0x4F) (eqb (getD s 2 0) 0x46) (g .mark) in
-      let f = all-three (finite (ofBits binary32 (bitsAt s 6))) (finite (ofBits binary32 (bitsAt s 10))) (finite (ofBits binary32 (bitsAt s 14))) (g .floats) in
+      let f = all-three (finite (floatOf (bitsAt s 6))) (finite (floatOf (bitsAt s 10))) (finite (floatOf (bitsAt s 14))) (g .floats) in
       let e₀ = eqb-true (getD s 0 0) 0x47 (m .0) in
       let e₁ = eqb-true (getD s 1 0) 0x4F (m .1) in
       let e₂ = eqb-true (getD s 2 0) 0x46 (m .2) in
@@ -63,9 +63,12 @@ module _ (s : List ℕ) (bytes : Bytes s) where
       spelt ∙ sym (spelled 18 s 0 (g .size))
 
 -- what was read is accepted
-read-passes : (s before : List ℕ) → Good s 0 true → length before ≡ 18 → refusalOf (writeChecks (offsetAt s) before) ≡ 0
+read-passes : (s before : List ℕ) → Good s 0 true → length before ≡ 18 → refusalOf (writeChecks (offsetAt s) (length before)) ≡ 0
 read-passes s before g h =
-    passes 1 _ (agrees (length before) 18 h) ∙ passes 4 _ (le-ltb 23 (mountingAt s) (omega (arith, g .mounting))) ∙ passes 5 _ (ap not (g .floats)) ∙ all-pass
+    passes 1 _ (agrees (length before) 18 h)
+    ∙ passes 4 _ (le-ltb 23 (mountingAt s) (omega (arith, g .mounting)))
+    ∙ passes 5 _ (ap not (g .floats))
+    ∙ all-pass
 
 module _ (s : List ℕ) (o : Offset) (e : Reads s (Read o)) where
   read-good : Good s 0 true
@@ -78,5 +81,5 @@ pub written-read : WrittenRead
 written-read s before after o n bytes h e w =
     let g = read-good s o e in
     let r = read-offset s o e in
-    let z = ap (λ (p : Offset). refusalOf (writeChecks p before)) r ∙ read-passes s before g h in
+    let z = ap (λ (p : Offset). refusalOf (writeChecks p (length before))) r ∙ read-passes s before g h in
     (w .number ∙ z, is-new _ _ (w .holds) z ∙ ap recordOf r ∙ record-back s bytes g)

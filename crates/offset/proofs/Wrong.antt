@@ -1,12 +1,13 @@
 -- Wrong answers that the promises refuse, each by evaluation. Assumes nothing.
 use Prim.Native.Nat.{ℕ}
 use native.Mathlib.Omega.{arith}
-use mathlib.Core.Path.{_≡_, ap}
+use mathlib.Core.Path.{ap, refl}
 use mathlib.Core.Bool.{true, false, cond}
 use mathlib.Core.List.{List, [], _∷_}
 use lib.IntN.{pos}
-use lib.ListN.{getD}
+use lib.ListN.{getD, set}
 use lib.Ieee.{Float, nan, inf, fin, ofBits, toBits}
+use Rattle.number.proofs.Apart.{unlike}
 use Rattle.answer.specs.Refusals.{refusalOf}
 use Rattle.vector.specs.Vectors.{vector, finiteVector}
 use Rattle.vector.specs.Mounting.{mountingOf}
@@ -28,14 +29,18 @@ abbrev mountingIn : RecordRead → ℕ
 mountingIn (Read o) = o .mounting
 mountingIn (Refused n) = 0
 
--- the mounting left out; mounting 24 taken; a number that no check gives
+-- the mounting left out; mounting 24 taken; a record of version 2 taken; one of version 1 refused for it; a number that no check gives
 pub of-read-offset
     : (Reads row (Read (record { mounting = 0; vector = vector one minusTwo half })) → ⊥)
     × (Reads (recordWith 24 (0x3F ∷ [])) (Read (record { mounting = 24; vector = vector one minusTwo half })) → ⊥)
+    × (Reads (set row 3 2) (Read rowOffset) → ⊥)
+    × (Reads row (Refused 3) → ⊥)
     × (Reads row (Refused 5) → ⊥)
 unfolding refusalOf recordChecks hasMark vectorAt finiteVector ofBits
 of-read-offset = (
-  λ h. let z : _≡_ {A = ℕ} 0 11 = ap mountingIn (h .exact) in omega arith,
+  λ h. unlike 0 11 refl (ap mountingIn (h .exact)),
+  λ h. let e = h .number in omega arith,
+  λ h. let e = h .number in omega arith,
   λ h. let e = h .number in omega arith,
   λ h. let e = h .number in omega arith,
 )
@@ -46,18 +51,23 @@ blank = 0 ∷ 0 ∷ 0 ∷ 0 ∷ 0 ∷ 0 ∷ 0 ∷ 0 ∷ 0 ∷ 0 ∷ 0 ∷ 0 ∷ 
 abbrev zeros : Float → Offset
 zeros x = record { mounting = 0; vector = vector x (fin false 0 (pos 0)) (fin false 0 (pos 0)) }
 
--- nothing written; a refused call that writes; an infinity taken; minus zero written as zero
+abbrev twentyFour : Offset
+twentyFour = record { mounting = 24; vector = rowOffset .vector }
+
+-- nothing written; a refused call that writes; an infinity taken; mounting 24 written; minus zero written as zero
 pub of-write-offset
     : (Writes rowOffset blank blank 0 → ⊥)
     × (Writes (zeros (inf false)) blank row 5 → ⊥)
     × (Writes (zeros (inf false)) blank blank 0 → ⊥)
+    × (Writes twentyFour blank (recordOf twentyFour) 0 → ⊥)
     × (Writes (zeros (fin true 0 (pos 0))) blank (recordOf (zeros (fin false 0 (pos 0)))) 0 → ⊥)
 unfolding refusalOf recordOf finiteVector toBits
 of-write-offset = (
-  λ h. let z : _≡_ {A = ℕ} 0 0x47 = ap (λ (l : List ℕ). getD l 0 0) (h .holds) in omega arith,
-  λ h. let z : _≡_ {A = ℕ} 0x47 0 = ap (λ (l : List ℕ). getD l 0 0) (h .holds) in omega arith,
+  λ h. unlike 0 0x47 refl (ap (λ (l : List ℕ). getD l 0 0) (h .holds)),
+  λ h. unlike 0x47 0 refl (ap (λ (l : List ℕ). getD l 0 0) (h .holds)),
   λ h. let e = h .number in omega arith,
-  λ h. let z : _≡_ {A = ℕ} 0 0x80 = ap (λ (l : List ℕ). getD l 9 0) (h .holds) in omega arith,
+  λ h. let e = h .number in omega arith,
+  λ h. unlike 0 0x80 refl (ap (λ (l : List ℕ). getD l 9 0) (h .holds)),
 )
 
 -- an estimator with a timer that runs, and an offset of its own
@@ -88,8 +98,8 @@ pub of-restore
     × (Restores running row 24 (gives (withOffset running (vector half one minusTwo)) 4) → ⊥)
 unfolding refusalOf recordChecks hasMark vectorAt finiteVector finiteBias finiteSettings reframedOf inverseOf composeOf first same nameOf mountingOf ofBits
 of-restore = (
-  λ h. let z : _≡_ {A = ℕ} 1 0 = ap (λ (b : Bias). minus (b .offset .y)) (h .holds) in omega arith,
-  λ h. let z : _≡_ {A = ℕ} 1 0 = ap (λ (b : Bias). minus (b .offset .x)) (h .holds) in omega arith,
-  λ h. let z : _≡_ {A = ℕ} 0 7 = ap (λ (b : Bias). b .timer) (h .holds) in omega arith,
-  λ h. let z : _≡_ {A = ℕ} 1 0 = ap (λ (b : Bias). minus (b .offset .z)) (h .holds) in omega arith,
+  λ h. unlike 1 0 refl (ap (λ (b : Bias). minus (b .offset .y)) (h .holds)),
+  λ h. unlike 1 0 refl (ap (λ (b : Bias). minus (b .offset .x)) (h .holds)),
+  λ h. unlike 0 7 refl (ap (λ (b : Bias). b .timer) (h .holds)),
+  λ h. unlike 1 0 refl (ap (λ (b : Bias). minus (b .offset .z)) (h .holds)),
 )

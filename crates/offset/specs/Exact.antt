@@ -8,6 +8,6 @@ use Rattle.offset.specs.Record.{readChecks, writeChecks}
 use Rattle.offset.specs.Restore.{restoreChecks}
 
 pub record ExactlyWhen : Type 0 where
-  pub write-offset : (o : Offset) (s : List ℕ) → Exactly (writeChecks o s)
+  pub write-offset : (o : Offset) (room : ℕ) → Exactly (writeChecks o room)
   pub read-offset : (s : List ℕ) → Exactly (readChecks s)
   pub restore : (b : Bias) (s : List ℕ) (m : ℕ) → Exactly (restoreChecks b s m)

@@ -1,5 +1,5 @@
-pub mod Determined
-pub mod Exact
 pub mod Record
 pub mod Restore
 pub mod RoundTrip
+pub mod Exact
+pub mod Determined

@@ -4,7 +4,9 @@ use mathlib.Core.Bool.{Bool, true, not, _&&_, _||_}
 use mathlib.Core.List.{List, [], _∷_, _++_}
 use lib.Dec.{ltb, eqb}
 use lib.ListN.{length, getD}
-use Rattle.answer.specs.Refusals.{Check, check, Answered, Changed}
+use Rattle.answer.specs.Refusals.{Check, check}
+use Rattle.answer.specs.Said.{Said, values, refusal}
+use Rattle.answer.specs.Promises.{Answered, Changed}
 use Rattle.vector.specs.declared.Vector.{Vector}
 use Rattle.vector.specs.Vectors.{vector, finiteVector}
 use Rattle.wire.specs.Wire.{u16At, bitsAt, floatOf, bitsOf}
@@ -43,22 +45,18 @@ recordChecks s m stateFinite =
 abbrev pub readChecks : List ℕ → List Check
 readChecks s = recordChecks s 0 true
 
--- the number and the values of each case
-abbrev pub numberOf : RecordRead → ℕ
-numberOf (Read o) = 0
-numberOf (Refused n) = n
-
-abbrev pub valuesOf : RecordRead → List Offset
-valuesOf (Read o) = o ∷ []
-valuesOf (Refused n) = []
+abbrev pub recordSaid : RecordRead → Said Offset
+recordSaid (Read o) = values (o ∷ [])
+recordSaid (Refused n) = refusal n
 
 abbrev pub Reads : List ℕ → RecordRead → Type 0
-Reads s r = Answered numberOf valuesOf Refused (readChecks s) (Read (offsetAt s)) r
+Reads s r = Answered recordSaid Refused (readChecks s) (Read (offsetAt s)) r
 
 -- ---- writing
 
-abbrev pub writeChecks : Offset → List ℕ → List Check
-writeChecks o s = check 1 (not (eqb (length s) 18)) ∷ check 4 (ltb 23 (o .mounting)) ∷ check 5 (not (finiteVector (o .vector))) ∷ []
+-- into room for so many bytes
+abbrev pub writeChecks : Offset → ℕ → List Check
+writeChecks o room = check 1 (not (eqb room 18)) ∷ check 4 (ltb 23 (o .mounting)) ∷ check 5 (not (finiteVector (o .vector))) ∷ []
 
 -- the four bytes of a float, bit for bit
 abbrev pub bytesOf : ℕ → List ℕ
@@ -71,4 +69,4 @@ recordOf o =
 
 -- r is the refusal's number, and `after` holds the record, or where it is refused what was there
 abbrev pub Writes : Offset → List ℕ → List ℕ → ℕ → Type 0
-Writes o s after r = Changed (writeChecks o s) (recordOf o) s after r
+Writes o s after r = Changed (writeChecks o (length s)) (recordOf o) s after r

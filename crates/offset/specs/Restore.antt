@@ -2,7 +2,8 @@
 use Prim.Native.Nat.{ℕ}
 use mathlib.Core.Path.{_≡_}
 use mathlib.Core.List.{List}
-use Rattle.answer.specs.Refusals.{Check, Changed}
+use Rattle.answer.specs.Refusals.{Check}
+use Rattle.answer.specs.Promises.{Changed}
 use Rattle.vector.specs.declared.Vector.{Vector}
 use Rattle.vector.specs.Mounting.{turnOf}
 use Rattle.remap.specs.Composition.{inverseOf}

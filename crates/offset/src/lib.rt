@@ -7,7 +7,7 @@ ghost use mathlib.Core.Path.{_≡_};
 ghost use lib.ListN.{length};
 ghost use Rattle.answer.specs.Refusals.{refusalOf};
 ghost use Rattle.vector.specs.Vectors.{finiteVector};
-ghost use Rattle.offset.specs.Record.{hasMark, vectorAt, offsetAt, recordOf, recordChecks, Reads, Writes};
+ghost use Rattle.offset.specs.Record.{hasMark, vectorAt, offsetAt, recordOf, recordChecks, writeChecks, Reads, Writes};
 
 // An offset, in the frame of a mounting.
 pub struct Offset {
@@ -38,8 +38,8 @@ fn are_finite(bytes: &[u8]) -> bool
         & wire::is_finite_bits(wire::bits_at(bytes, 14))
 }
 
-// The refusal of a record, 0 for none, beside one more mounting number and whether the caller's own floats are finite.
-fn refusal(bytes: &[u8], mounting: u8, finite: bool) -> u8
+// The number of a record's checks, beside one more mounting number and whether the caller's own floats are finite.
+fn record_refusal(bytes: &[u8], mounting: u8, finite: bool) -> u8
     ensures { λ r. ⌜ r ≡ refusalOf (recordChecks (now (bytes .entry)) mounting finite) ⌝ }
 {
     if bytes.len() != 18 {
@@ -77,7 +77,7 @@ fn offset_at(bytes: &[u8]) -> Offset
 pub fn read_offset(bytes: &[u8]) -> RecordRead
     ensures { λ r. ⌜ Reads (now (bytes .entry)) r ⌝ }
 {
-    let number = refusal(bytes, 0, true);
+    let number = record_refusal(bytes, 0, true);
     if number != 0 {
         return RecordRead::Refused(number);
     }
@@ -101,11 +101,11 @@ fn put_offset(offset: Offset, bytes: &mut [u8])
     wire::put_bits(bytes, 14, wire::bits_of(vector.z));
 }
 
-// Writes the record of an offset; a refused call leaves the buffer as it was.
-pub fn write_offset(offset: Offset, bytes: &mut [u8]) -> u8
-    ensures { λ r. ⌜ Writes offset (now (bytes .entry)) (now (bytes .exit)) r ⌝ }
+// The number of a write's checks, of what is written and of the room for it.
+fn write_refusal(offset: Offset, room: usize) -> u8
+    ensures { λ r. ⌜ r ≡ refusalOf (writeChecks offset room) ⌝ }
 {
-    if bytes.len() != 18 {
+    if room != 18 {
         return 1;
     }
     if offset.mounting > 23 {
@@ -114,6 +114,17 @@ pub fn write_offset(offset: Offset, bytes: &mut [u8]) -> u8
     let vector = offset.vector;
     if !vector.is_finite() {
         return 5;
+    }
+    0
+}
+
+// Writes the record of an offset; a refused call leaves the buffer as it was.
+pub fn write_offset(offset: Offset, bytes: &mut [u8]) -> u8
+    ensures { λ r. ⌜ Writes offset (now (bytes .entry)) (now (bytes .exit)) r ⌝ }
+{
+    let number = write_refusal(offset, bytes.len());
+    if number != 0 {
+        return number;
     }
     put_offset(offset, bytes);
     0

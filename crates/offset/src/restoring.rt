@@ -1,10 +1,10 @@
 // A recorded offset set into the bias estimator, turned out of the recorded mounting and into another.
 use super::offset_at;
-use super::refusal;
+use super::record_refusal;
 use answer::Answer;
 use bias::Bias;
 use bias::Change;
-use remap::Mounting;
+use remap::MountingRead;
 use vector::Vector;
 ghost use mathlib.Core.Path.{_≡_};
 ghost use mathlib.Core.Bool.{true};
@@ -31,7 +31,7 @@ fn reframed(vector: Vector, from: u8, to: u8) -> Vector
     ensures { λ r. ⌜ r ≡ reframedOf vector from to ⌝ }
 {
     let undoing = remap::inverse(from);
-    let Mounting::Number(inverse) = undoing else {
+    let MountingRead::Number(inverse) = undoing else {
         return vector;
     };
     turned(turned(vector, inverse), to)
@@ -41,7 +41,7 @@ fn reframed(vector: Vector, from: u8, to: u8) -> Vector
 pub fn restore(bias: Bias, bytes: &[u8], mounting: u8) -> Change
     ensures { λ r. ⌜ Restores bias (now (bytes .entry)) mounting r ⌝ }
 {
-    let number = refusal(bytes, mounting, bias.is_finite());
+    let number = record_refusal(bytes, mounting, bias.is_finite());
     if number != 0 {
         return Change {
             state: bias,

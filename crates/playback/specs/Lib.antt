@@ -1,4 +1,5 @@
-pub mod Exact
-pub mod Feeding
-pub mod Machine
 pub mod Rule
+pub mod Machine
+pub mod Feeding
+pub mod Exact
+pub mod Inner

@@ -1,4 +1,4 @@
--- Counts after a reset or a step lie between their ends: `StepsInside` holds. Assumes nothing.
+-- Counts after a reset or an update lie between their ends: `StaysInside` holds. Assumes nothing.
 use mathlib.Core.Path.{_≡_, refl}
 use mathlib.Core.Bool.{Bool, true, false, cond}
 use mathlib.Core.Logic.{inl, inr}
@@ -6,8 +6,8 @@ use lib.IntN.{ℤ, pos}
 use lib.Signed.{ltZ}
 use Rattle.number.specs.Whole.{clampOf}
 use Rattle.rejection.specs.declared.Counts.{Counts}
-use Rattle.rejection.specs.Step.{movedOf, stepOf}
-use Rattle.rejection.specs.Inside.{NotBelow, ZeroOr, Inside, StepsInside}
+use Rattle.rejection.specs.Counts.{movedOf, updatedOf}
+use Rattle.rejection.specs.Inside.{NotBelow, ZeroOr, Inside, StaysInside}
 use Rattle.rejection.proofs.Order.{not-below-itself}
 
 module _ (value timeout : ℤ) (h : NotBelow (pos 0) timeout) where
@@ -33,9 +33,9 @@ either : (timeout : ℤ) (p : Bool) → ZeroOr timeout (cond p (pos 0) timeout)
 either timeout true = inl refl
 either timeout false = inr refl
 
-stepped : (timeout : ℤ) → NotBelow (pos 0) timeout → (c : Counts) (over : Bool) → Inside timeout (stepOf timeout c over .counts)
-unfolding stepOf
-stepped timeout h c over =
+updated : (timeout : ℤ) → NotBelow (pos 0) timeout → (c : Counts) (over : Bool) → Inside timeout (updatedOf timeout c over .counts)
+unfolding updatedOf
+updated timeout h c over =
     let moved = movedOf over (c .trigger) in
     record {
       least = clamped-least moved timeout h;
@@ -43,9 +43,9 @@ stepped timeout h c over =
       threshold = either timeout (ltZ (c .threshold) moved);
     }
 
-pub steps-inside : StepsInside
-steps-inside =
+pub stays-inside : StaysInside
+stays-inside =
     record {
       reset = λ timeout h. record { least = not-below-itself (pos 0); most = h; threshold = inr refl };
-      step = stepped;
+      update = updated;
     }

@@ -7,22 +7,22 @@ use lib.IntN.{pos, negsuc}
 use lib.Signed.{mag}
 use Rattle.number.specs.Whole.{saturatedOf, clampOf}
 use Rattle.rejection.specs.declared.Counts.{Counts}
-use Rattle.rejection.specs.declared.Stepped.{Stepped}
-use Rattle.rejection.specs.Step.{counted, resetOf, movedOf, stepOf, recoveryOf}
+use Rattle.rejection.specs.declared.Updated.{Updated}
+use Rattle.rejection.specs.Counts.{counted, resetOf, movedOf, updatedOf, recoveryOf}
 
-abbrev stepped : ℕ → ℕ → Bool → Stepped
-stepped trigger threshold used = record { counts = counted (pos trigger) (pos threshold); used = used }
+abbrev after : ℕ → ℕ → Bool → Updated
+after trigger threshold used = record { counts = counted (pos trigger) (pos threshold); used = used }
 
 -- T = 3, trigger 3, over the limit: clamped before compared, so that recovery never begins; a trigger left above T; and a good reading that falls by 8
-pub of-step
-    : (stepped 3 3 false ≡ stepOf (pos 3) (counted (pos 3) (pos 3)) true → ⊥)
-    × (stepped 4 0 true ≡ stepOf (pos 3) (counted (pos 3) (pos 3)) true → ⊥)
-    × (stepped 12 0 true ≡ stepOf (pos 20) (counted (pos 20) (pos 0)) false → ⊥)
-unfolding stepOf movedOf saturatedOf clampOf
-of-step = (
-  λ h. let z : _≡_ {A = ℕ} 3 0 = ap (λ (s : Stepped). mag (s .counts .threshold)) h in omega arith,
-  λ h. let z : _≡_ {A = ℕ} 4 3 = ap (λ (s : Stepped). mag (s .counts .trigger)) h in omega arith,
-  λ h. let z : _≡_ {A = ℕ} 12 11 = ap (λ (s : Stepped). mag (s .counts .trigger)) h in omega arith,
+pub of-update
+    : (after 3 3 false ≡ updatedOf (pos 3) (counted (pos 3) (pos 3)) true → ⊥)
+    × (after 4 0 true ≡ updatedOf (pos 3) (counted (pos 3) (pos 3)) true → ⊥)
+    × (after 12 0 true ≡ updatedOf (pos 20) (counted (pos 20) (pos 0)) false → ⊥)
+unfolding updatedOf movedOf saturatedOf clampOf
+of-update = (
+  λ h. let z : _≡_ {A = ℕ} 3 0 = ap (λ (s : Updated). mag (s .counts .threshold)) h in omega arith,
+  λ h. let z : _≡_ {A = ℕ} 4 3 = ap (λ (s : Updated). mag (s .counts .trigger)) h in omega arith,
+  λ h. let z : _≡_ {A = ℕ} 12 11 = ap (λ (s : Updated). mag (s .counts .trigger)) h in omega arith,
 )
 
 -- from the largest number up: wrapped, and one too many

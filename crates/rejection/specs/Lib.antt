@@ -1,2 +1,2 @@
-pub mod Step
+pub mod Counts
 pub mod Inside

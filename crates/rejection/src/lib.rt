@@ -1,6 +1,6 @@
 // The two counts of one sensor's rejection, and what a reading does to them: the whole-number part of the Rust's `Rejection`.
 ghost use mathlib.Core.Path.{_≡_};
-ghost use Rattle.rejection.specs.Step.{resetOf, movedOf, stepOf, recoveryOf};
+ghost use Rattle.rejection.specs.Counts.{resetOf, movedOf, updatedOf, recoveryOf};
 
 pub struct Counts {
     pub trigger: i32,
@@ -8,7 +8,7 @@ pub struct Counts {
 }
 
 // The counts after a reading, and whether its residual is used.
-pub struct Stepped {
+pub struct Updated {
     pub counts: Counts,
     pub used: bool,
 }
@@ -33,14 +33,15 @@ impl Counts {
         number::saturating_sub(self.trigger, 9)
     }
 
-    // A reading that is over the limit and not in startup, or one that is good: the trigger moves, is compared, and only then is clamped.
-    pub fn step(self, over: bool, timeout: i32) -> Stepped
-        ensures { λ r. ⌜ r ≡ stepOf timeout self over ⌝ }
+    // The counts' part of the Rust's `Rejection::update`: the trigger moves, is compared, and only then is clamped.
+    // A reading is over the limit and not in startup, or it is good.
+    pub fn update(self, over: bool, timeout: i32) -> Updated
+        ensures { λ r. ⌜ r ≡ updatedOf timeout self over ⌝ }
     {
         let moved = self.moved(over);
         let trigger = number::clamp(moved, 0, timeout);
         if moved > self.threshold {
-            return Stepped {
+            return Updated {
                 counts: Counts {
                     trigger,
                     threshold: 0,
@@ -48,7 +49,7 @@ impl Counts {
                 used: true,
             };
         }
-        Stepped {
+        Updated {
             counts: Counts {
                 trigger,
                 threshold: timeout,

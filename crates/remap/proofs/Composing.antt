@@ -42,36 +42,36 @@ turn-turn a b v = λ i. record { x = axis (b .x) i; y = axis (b .y) i; z = axis 
     axis : (s : Signed) → read neg (turn a v .x) (turn a v .y) (turn a v .z) s ≡ read neg (v .x) (v .y) (v .z) (read opposite (a .x) (a .y) (a .z) s)
     axis s = read-read (v .x) (v .y) (v .z) (a .x) (a .y) (a .z) s
 
--- ---- a mounting is told by its name
+-- ---- a mounting is known by its name
 
 abbrev axisOf : ℕ → Signed → Signed → Signed → Signed
 axisOf l x y z = cond (eqb l 88) x (cond (eqb l 89) y z)
 
-abbrev told : ℕ → ℕ → Signed
-told c l = cond (eqb c 43) (axisOf l Px Py Pz) (axisOf l Nx Ny Nz)
+abbrev signedOf : ℕ → ℕ → Signed
+signedOf c l = cond (eqb c 43) (axisOf l Px Py Pz) (axisOf l Nx Ny Nz)
 
-told-again : (s : Signed) → told (sign s) (letter s) ≡ s
-told-again Px = refl
-told-again Py = refl
-told-again Pz = refl
-told-again Nx = refl
-told-again Ny = refl
-told-again Nz = refl
+spelled-again : (s : Signed) → signedOf (sign s) (letter s) ≡ s
+spelled-again Px = refl
+spelled-again Py = refl
+spelled-again Pz = refl
+spelled-again Nx = refl
+spelled-again Ny = refl
+spelled-again Nz = refl
 
-told-apart : (s t : Signed) → sign s ≡ sign t → letter s ≡ letter t → s ≡ t
-told-apart s t p q = sym (told-again s) ∙ ap₂ told p q ∙ told-again t
+spelled-apart : (s t : Signed) → sign s ≡ sign t → letter s ≡ letter t → s ≡ t
+spelled-apart s t p q = sym (spelled-again s) ∙ ap₂ signedOf p q ∙ spelled-again t
 
 pub spell-once : (a b : Mounting) → spell a ≡ spell b → a ≡ b
 spell-once a b e = λ i. record { x = px i; y = py i; z = pz i }
   where
     px : a .x ≡ b .x
-    px = told-apart (a .x) (b .x) (cc) (cc)
+    px = spelled-apart (a .x) (b .x) (cc) (cc)
 
     py : a .y ≡ b .y
-    py = told-apart (a .y) (b .y) (cc) (cc)
+    py = spelled-apart (a .y) (b .y) (cc) (cc)
 
     pz : a .z ≡ b .z
-    pz = told-apart (a .z) (b .z) (cc) (cc)
+    pz = spelled-apart (a .z) (b .z) (cc) (cc)
 
 -- ---- the set is closed: a test that antt computes at all 576
 

@@ -5,7 +5,7 @@ use lib.IntN.{pos}
 use Rattle.vector.specs.Mounting.{Mounting}
 use Rattle.vector.specs.Determinant.{determinantOf}
 use Rattle.vector.proofs.Determinant.{all-of-determinant-one}
-use Rattle.remap.specs.declared.Mounting.the-variants.{Number}
+use Rattle.remap.specs.declared.MountingRead.the-variants.{Number}
 use Rattle.remap.specs.Names.{spell, nameOf, readOf, NamesOfDeterminantOne}
 use Rattle.remap.proofs.Naming.{name-read, no-other}
 use Rattle.remap.proofs.Composing.{spell-once}

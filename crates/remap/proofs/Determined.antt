@@ -5,10 +5,9 @@ use Rattle.remap.specs.Determined.{Determined}
 pub determined : Determined
 determined =
     record {
-      remap = λ v n. only-one .answered _ _ _ _ _;
+      remap = λ v n. only-one .answered _ _ _ _;
       write-name = λ n s. only-one .changed _ _ _;
-      read-name = λ s. only-one .answered _ _ _ _ _;
-      compose = λ a b. only-one .answered _ _ _ _ _;
-      inverse = λ n. only-one .answered _ _ _ _ _;
-      turn-run = λ n source turned. only-one .changed _ _ _;
+      read-name = λ s. only-one .answered _ _ _ _;
+      compose = λ a b. only-one .answered _ _ _ _;
+      inverse = λ n. only-one .answered _ _ _ _;
     }

@@ -1,16 +1,15 @@
--- What a return has to show, from the tests that led to it. Assumes nothing.
+-- What the returns of a call that gives a mounting have to show, from the tests that led to them. Assumes nothing.
 use Prim.Native.Nat.{ℕ, suc}
-use mathlib.Core.Path.{_≡_, refl, ap, sym, subst}
+use native.Mathlib.Omega.{arith}
+use mathlib.Core.Path.{_≡_, refl, ap, sym}
 use mathlib.Core.List.{List}
 use Rattle.answer.specs.Refusals.{Check, refusalOf}
-use Rattle.answer.proofs.Answering.{refuses, accepts}
-use Rattle.remap.specs.declared.Mounting.{Mounting}
-use Rattle.remap.specs.declared.Mounting.the-variants.{Number, Refused}
-use Rattle.remap.specs.Given.{numberOf, valuesOf, Gives}
+use Rattle.answer.proofs.Answering.{refuses, gives}
+use Rattle.remap.specs.declared.MountingRead.the-variants.{Number, Refused}
+use Rattle.remap.specs.Given.{mountingSaid, Gives}
 
 pub gives-refusal : (cs : List Check) (m k : ℕ) → refusalOf cs ≡ suc k → Gives cs m (Refused (suc k))
-gives-refusal cs m k e = refuses numberOf valuesOf Refused (λ n. refl) (λ n. refl) cs (Number m) k refl e
+gives-refusal cs m k e = refuses mountingSaid Refused (λ n. refl) cs (Number m) refl (sym e) (λ z. omega arith)
 
 pub gives-number : (cs : List Check) (m : ℕ) {n : ℕ} → refusalOf cs ≡ 0 → n ≡ m → Gives cs m (Number n)
-gives-number cs m e f =
-    subst (λ (r : Mounting). Gives cs m r) (ap Number (sym f)) (accepts numberOf valuesOf Refused (λ n. refl) (λ n. refl) cs (Number m) refl e)
+gives-number cs m e f = gives mountingSaid Refused (λ n. refl) cs (Number m) refl (sym e) refl (ap Number f)

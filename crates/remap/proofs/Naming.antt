@@ -7,15 +7,15 @@ use mathlib.Core.Bool.{Bool, true, false, not}
 use mathlib.Core.List.{List, [], _∷_}
 use lib.Dec.{eqb, ltb, eqb→eq}
 use lib.ListN.{length, getD, take, drop, set}
-use borrow.Author.Tests.{ltb-false, le-ltb, lt-ltb}
-use Rattle.answer.proofs.Tests.{agrees}
+use borrow.Author.Tests.{ltb-false, le-ltb, lt-ltb, eqb-true}
+use Rattle.answer.proofs.Tests.{agrees, still}
 use Rattle.answer.specs.Refusals.{check, refusalOf, accepted}
 use Rattle.vector.specs.Mounting.{mountingOf}
-use Rattle.remap.specs.declared.Mounting.the-variants.{Number, Refused}
+use Rattle.remap.specs.declared.MountingRead.the-variants.{Number, Refused}
 use Rattle.remap.specs.First.{first}
 use Rattle.remap.specs.Given.{Gives}
-use Rattle.remap.specs.Names.{nameOf, same, namedBy, readChecks, NameRead, NoOther}
-use Rattle.answer.proofs.Answering.{fails, passes, all-pass}
+use Rattle.remap.specs.Names.{nameOf, same, namedBy, readChecks, writeChecks, NameWritten, NameRead, NoOther}
+use Rattle.answer.proofs.Answering.{fails, passes, all-pass, unfailed}
 use Rattle.remap.proofs.Giving.{gives-refusal, gives-number}
 use Rattle.remap.proofs.Searching.{first-passes, same-next, same-not, same-end, same-eq, copied-next, copied-all}
 use Rattle.remap.proofs.Tabled.{tabulate, tabulated, at-each}
@@ -54,11 +54,29 @@ byte-at n k h g =
     let r : (n * 6 + k) % 6 ≡ k = omega arith in
     tabulated byteAt 144 0 (n * 6 + k) (omega arith) ∙ ap byteAt (zero-add (n * 6 + k)) ∙ ap₂ (λ (a b : ℕ). getD (nameOf a) b 0) q r
 
--- ---- reading
+-- ---- writing and reading
+
+-- neither of the two checks fails
+passed-both : (a b : Bool) → refusalOf (check 1 a ∷ check 4 b ∷ []) ≡ 0 → (a ≡ false) × (b ≡ false)
+passed-both a b e =
+    let (first, rest) = unfailed 0 a _ e in
+    (first, unfailed 3 b [] rest .0)
+
+pub writable : (n room : ℕ) {k : ℕ} → k ≡ refusalOf (writeChecks n room) → k ≡ 0 → (n < 24) × (room ≡ 6)
+writable n room e z =
+    let (sized, below) = passed-both (not (eqb room 6)) (ltb 23 n) (sym e ∙ z) in
+    (omega (arith, ltb-false 23 n below), eqb-true room 6 (still (eqb room 6) sized))
+
+-- a name that was written where it has room is the mounting's
+pub named : (n : ℕ) (old after : List ℕ) {r : ℕ} → n < 24 → length old ≡ 6 → NameWritten n old after r → after ≡ nameOf n
+named n old after h l w =
+    let none = passes 1 _ (agrees (length old) 6 l) ∙ passes 4 _ (le-ltb 23 n (omega arith)) ∙ all-pass in
+    w .holds ∙ ap (λ (k : ℕ). accepted k (nameOf n) old) none
 
 module _ (s : List ℕ) (six : length s ≡ 6) where
   pub reads : (n : ℕ) → n < 24 → namedBy s ≡ n → Gives (readChecks s) (namedBy s) (Number n)
-  reads n h e = gives-number (readChecks s) (namedBy s) (passes 1 _ (agrees (length s) 6 six) ∙ passes 4 _ (le-ltb 23 (namedBy s) (omega arith)) ∙ all-pass) (sym e)
+  reads n h e =
+      gives-number (readChecks s) (namedBy s) (passes 1 _ (agrees (length s) 6 six) ∙ passes 4 _ (le-ltb 23 (namedBy s) (omega arith)) ∙ all-pass) (sym e)
 
   pub unknown : (n : ℕ) → 24 ≤ n → namedBy s ≡ n → Gives (readChecks s) (namedBy s) (Refused 4)
   unknown n h e = gives-refusal (readChecks s) (namedBy s) 3 (passes 1 _ (agrees (length s) 6 six) ∙ fails 4 _ (lt-ltb 23 (namedBy s) (omega arith)))
@@ -76,18 +94,12 @@ name-read n h = sym (reads (nameOf n) refl n h (found n h) .exact)
 pub is-name : (s : List ℕ) → namedBy s < 24 → s ≡ nameOf (namedBy s)
 is-name s h = same-eq s (nameOf (namedBy s)) (first-passes (λ n. same s (nameOf n)) 24 0 h)
 
-second-passed : (a b : Bool) → refusalOf (check 1 a ∷ check 4 b ∷ []) ≡ 0 → b ≡ false
-unfolding refusalOf
-second-passed true b e = let z : _≡_ {A = ℕ} 0 1 = cc in absurd (omega arith)
-second-passed false true e = let z : _≡_ {A = ℕ} 0 4 = cc in absurd (omega arith)
-second-passed false false e = refl
-
 pub no-other : NoOther
 no-other s n e = go (refusalOf (readChecks s)) refl e
   where
     go : (k : ℕ) → refusalOf (readChecks s) ≡ k → accepted k (Number (namedBy s)) (Refused k) ≡ Number n → (n < 24) × (s ≡ nameOf n)
     go zero p q =
         let f : namedBy s ≡ n = cc in
-        let b = ltb-false 23 (namedBy s) (second-passed (not (eqb (length s) 6)) (ltb 23 (namedBy s)) p) in
+        let b = ltb-false 23 (namedBy s) (passed-both (not (eqb (length s) 6)) (ltb 23 (namedBy s)) p .1) in
         (omega arith, is-name s (omega arith) ∙ ap nameOf f)
     go (suc k) p q = (let z : _≡_ {A = ℕ} 0 1 = cc in omega arith, cc)

@@ -3,7 +3,6 @@ use Rattle.answer.specs.Refusals.{ascends}
 use Rattle.answer.proofs.Table.{by-the-table}
 use Rattle.remap.specs.Names.{readChecks, writeChecks}
 use Rattle.remap.specs.Composition.{composeChecks, inverseChecks}
-use Rattle.remap.specs.Runs.{runChecks}
 use Rattle.remap.specs.Exact.{ExactlyWhen}
 
 pub exactly-when : ExactlyWhen
@@ -11,8 +10,7 @@ unfolding ascends
 exactly-when =
     record {
       read-name = λ s. by-the-table (readChecks s) tt;
-      write-name = λ n s. by-the-table (writeChecks n s) tt;
+      write-name = λ n room. by-the-table (writeChecks n room) tt;
       compose = λ a b. by-the-table (composeChecks a b) tt;
       inverse = λ n. by-the-table (inverseChecks n) tt;
-      turn-run = λ n s t. by-the-table (runChecks n s t) tt;
     }

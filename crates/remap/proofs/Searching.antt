@@ -1,5 +1,4 @@
--- The search for the first number that passes, and the comparison of two runs of bytes, step by step and as a whole.
--- Assumes nothing.
+-- The search for the first number that passes, and the comparison of two runs of bytes, step by step and as a whole. Assumes nothing.
 use Prim.Native.Nat.{ℕ, zero, suc, _+_, _-_, _≤_, _<_}
 use native.Mathlib.Omega.{arith}
 use native.Mathlib.Numerals.{add-one}

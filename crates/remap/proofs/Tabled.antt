@@ -1,5 +1,4 @@
--- A table that a function of the place makes, and a test at every number below a bound, which antt computes.
--- Assumes nothing.
+-- A table that a function of the place makes, and a test at every number below a bound, which antt computes. Assumes nothing.
 use Prim.Native.Nat.{ℕ, zero, suc, _+_, _<_}
 use native.Mathlib.Nat.{not-suc-le-zero, le-of-suc-le-suc, add-zero}
 use native.Mathlib.Decide.{decLt}

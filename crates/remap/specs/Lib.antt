@@ -1,7 +1,6 @@
-pub mod Composition
-pub mod Determined
-pub mod Exact
 pub mod First
 pub mod Given
 pub mod Names
-pub mod Runs
+pub mod Composition
+pub mod Exact
+pub mod Determined

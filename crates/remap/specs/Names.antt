@@ -6,11 +6,12 @@ use mathlib.Core.List.{List, [], _∷_}
 use lib.Dec.{ltb, eqb}
 use lib.IntN.{pos}
 use lib.ListN.{length}
-use Rattle.answer.specs.Refusals.{Check, check, Changed}
+use Rattle.answer.specs.Refusals.{Check, check}
+use Rattle.answer.specs.Promises.{Changed}
 use Rattle.vector.specs.Mounting.{Signed, Mounting, mountingOf, read}
 use Rattle.vector.specs.Determinant.{determinantOf}
-use Rattle.remap.specs.declared.Mounting.{Mounting as Reading}
-use Rattle.remap.specs.declared.Mounting.the-variants.{Number}
+use Rattle.remap.specs.declared.MountingRead.{MountingRead}
+use Rattle.remap.specs.declared.MountingRead.the-variants.{Number}
 use Rattle.remap.specs.First.{firstMounting}
 use Rattle.remap.specs.Given.{givenOf}
 
@@ -43,14 +44,15 @@ namedBy s = firstMounting (λ n. same s (nameOf n))
 abbrev pub readChecks : List ℕ → List Check
 readChecks s = check 1 (not (eqb (length s) 6)) ∷ check 4 (ltb 23 (namedBy s)) ∷ []
 
-abbrev pub writeChecks : ℕ → List ℕ → List Check
-writeChecks n s = check 1 (not (eqb (length s) 6)) ∷ check 4 (ltb 23 n) ∷ []
+-- of the buffer only its length is asked
+abbrev pub writeChecks : ℕ → ℕ → List Check
+writeChecks n room = check 1 (not (eqb room 6)) ∷ check 4 (ltb 23 n) ∷ []
 
 -- r is the refusal's number, and `after` holds the name, or where it is refused what was there
 abbrev pub NameWritten : ℕ → List ℕ → List ℕ → ℕ → Type 0
-NameWritten n s after r = Changed (writeChecks n s) (nameOf n) s after r
+NameWritten n s after r = Changed (writeChecks n (length s)) (nameOf n) s after r
 
-abbrev pub readOf : List ℕ → Reading
+abbrev pub readOf : List ℕ → MountingRead
 readOf s = givenOf (readChecks s) (namedBy s)
 
 -- ---- the statements

@@ -1,21 +1,19 @@
-// Mountings: their names, one after another, undone, and vectors turned by them.
+// Mountings: their names, one after another, undone, and a vector turned by one.
 pub mod names; // names.rt: write_name, read_name
-pub mod runs; // runs.rt: turn_run
 pub mod table; // table.rt: compose, inverse
 
 use answer::Answer;
 pub use names::read_name;
 pub use names::write_name;
-pub use runs::turn_run;
 pub use table::compose;
 pub use table::inverse;
 use vector::Vector;
-ghost use Rattle.answer.specs.Answers.{Answers};
+ghost use Rattle.answer.specs.Promises.{Answers};
 ghost use Rattle.vector.specs.Mounting.{turnOf};
 ghost use Rattle.vector.specs.Turned.{turnChecks, turnedAnswer};
 
 // A mounting's number, or a refusal's.
-pub enum Mounting {
+pub enum MountingRead {
     Number(u8),
     Refused(u8),
 }

@@ -1,10 +1,11 @@
 // The names of the mountings, six bytes each.
-use super::Mounting;
+use super::MountingRead;
 ghost use mathlib.Core.Path.{_≡_};
 ghost use Prim.Native.Nat.{_<_};
 ghost use lib.ListN.{length, getD};
+ghost use Rattle.answer.specs.Refusals.{refusalOf};
 ghost use Rattle.remap.specs.Given.{Gives};
-ghost use Rattle.remap.specs.Names.{nameOf, same, namedBy, readChecks, NameWritten};
+ghost use Rattle.remap.specs.Names.{nameOf, same, namedBy, readChecks, writeChecks, NameWritten};
 
 // In the order of `RemapAlignment::ALL`.
 const NAMES: [u8; 144] = *b"\
@@ -16,7 +17,7 @@ const NAMES: [u8; 144] = *b"\
     -Z+Y+X-Z-X+Y-Z-Y-X-Z+X-Y";
 
 // The k-th byte of a name. Only this reads the table, so that no other proof has it in its goals.
-pub(crate) fn byte_of(mounting: u8, k: usize) -> u8
+fn byte_of(mounting: u8, k: usize) -> u8
     requires { ⌜ (mounting < 24) × (k < 6) ⌝ }
     ensures { λ r. ⌜ r ≡ getD (nameOf mounting) k 0 ⌝ }
 {
@@ -36,15 +37,26 @@ fn put_name(mounting: u8, name: &mut [u8])
     }
 }
 
-// Writes the name of a mounting; a refused call leaves the buffer as it was.
-pub fn write_name(mounting: u8, name: &mut [u8]) -> u8
-    ensures { λ r. ⌜ NameWritten mounting (now (name .entry)) (now (name .exit)) r ⌝ }
+// The refusal of a name to be written where `room` bytes are, 0 for none.
+fn write_refusal(mounting: u8, room: usize) -> u8
+    ensures { λ r. ⌜ r ≡ refusalOf (writeChecks mounting room) ⌝ }
 {
-    if name.len() != 6 {
+    if room != 6 {
         return 1;
     }
     if mounting > 23 {
         return 4;
+    }
+    0
+}
+
+// Writes the name of a mounting; a refused call leaves the buffer as it was.
+pub fn write_name(mounting: u8, name: &mut [u8]) -> u8
+    ensures { λ r. ⌜ NameWritten mounting (now (name .entry)) (now (name .exit)) r ⌝ }
+{
+    let number = write_refusal(mounting, name.len());
+    if number != 0 {
+        return number;
     }
     put_name(mounting, name);
     0
@@ -66,18 +78,18 @@ fn is_name(name: &[u8], mounting: u8) -> bool
 }
 
 // The mounting that the bytes name.
-pub fn read_name(name: &[u8]) -> Mounting
+pub fn read_name(name: &[u8]) -> MountingRead
     ensures { λ r. ⌜ Gives (readChecks (now (name .entry))) (namedBy (now (name .entry))) r ⌝ }
 {
     if name.len() != 6 {
-        return Mounting::Refused(1);
+        return MountingRead::Refused(1);
     }
     let mut mounting = 0u8;
     while mounting < 24 {
         if is_name(name, mounting) {
-            return Mounting::Number(mounting);
+            return MountingRead::Number(mounting);
         }
         mounting += 1;
     }
-    Mounting::Refused(4)
+    MountingRead::Refused(4)
 }

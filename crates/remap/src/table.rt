@@ -1,5 +1,5 @@
 // One mounting after another, and the mounting that undoes another.
-use super::Mounting;
+use super::MountingRead;
 ghost use Rattle.remap.specs.Given.{Gives};
 ghost use Rattle.remap.specs.Composition.{composeOf, inverseOf, composeChecks, inverseChecks};
 
@@ -35,23 +35,23 @@ const INVERSES: [u8; 24] =
     *b"\x00\x03\x02\x01\x04\x05\x06\x07\x0c\x17\x0a\x11\x08\x13\x0e\x15\x14\x0b\x12\x0d\x10\x0f\x16\x09";
 
 // The one mounting that acts as `first` and then `second`.
-pub fn compose(first: u8, second: u8) -> Mounting
+pub fn compose(first: u8, second: u8) -> MountingRead
     ensures { λ r. ⌜ Gives (composeChecks first second) (composeOf first second) r ⌝ }
 {
     if (first > 23) | (second > 23) {
-        return Mounting::Refused(4);
+        return MountingRead::Refused(4);
     }
     let at = (first as usize) * 24 + (second as usize);
-    Mounting::Number(COMPOSED[at])
+    MountingRead::Number(COMPOSED[at])
 }
 
 // The mounting that undoes `mounting`.
-pub fn inverse(mounting: u8) -> Mounting
+pub fn inverse(mounting: u8) -> MountingRead
     ensures { λ r. ⌜ Gives (inverseChecks mounting) (inverseOf mounting) r ⌝ }
 {
     if mounting > 23 {
-        return Mounting::Refused(4);
+        return MountingRead::Refused(4);
     }
     let at = mounting as usize;
-    Mounting::Number(INVERSES[at])
+    MountingRead::Number(INVERSES[at])
 }

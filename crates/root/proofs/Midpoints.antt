@@ -61,7 +61,8 @@ as-square b = go (exponentOf b % 2) refl
 
     go : (r : ℕ) → exponentOf b % 2 ≡ r → significandOf b * 2 ^ (exponentOf b + 23) ≡ squaredOf b * (2 ^ (exponentOf b / 2) * 2 ^ (exponentOf b / 2))
     go zero h = simp (eq-eqb (exponentOf b % 2) 0 h) (halves (significandOf b) 23 (exponentOf b + 23) (exponentOf b / 2) (even (exponentOf b) h))
-    go (suc r) h = simp (ne-eqb (exponentOf b % 2) 0 (not-even r h)) (halves (significandOf b) 24 (exponentOf b + 23) (exponentOf b / 2) (uneven (exponentOf b) r h))
+    go (suc r) h =
+        simp (ne-eqb (exponentOf b % 2) 0 (not-even r h)) (halves (significandOf b) 24 (exponentOf b + 23) (exponentOf b / 2) (uneven (exponentOf b) r h))
 
 -- ---- the midpoints, with P for 2 ^ k
 
@@ -88,7 +89,9 @@ over-edge n P p h =
 -- ---- the same of the bits
 
 abbrev pub Mid : ℕ → ℕ → Type 0
-Mid b c = ((sizeAt (c - 1) + sizeAt c) * (sizeAt (c - 1) + sizeAt c) < 4 * (sizeAt b * 2 ^ 149)) × (4 * (sizeAt b * 2 ^ 149) < (sizeAt c + sizeAt (c + 1)) * (sizeAt c + sizeAt (c + 1)))
+Mid b c =
+    ((sizeAt (c - 1) + sizeAt c) * (sizeAt (c - 1) + sizeAt c) < 4 * (sizeAt b * 2 ^ 149)) ×
+    (4 * (sizeAt b * 2 ^ 149) < (sizeAt c + sizeAt (c + 1)) * (sizeAt c + sizeAt (c + 1)))
 
 module _ (b : ℕ) (f : Finite b) where
   k : ℕ
@@ -121,7 +124,9 @@ module _ (b : ℕ) (f : Finite b) where
   at = ap sizeAt bits-is ∙ size-at k q (q-range .0) (omega (arith, q-range .1))
 
   at-next : sizeAt (rootBitsOf b + 1) ≡ (q + 1) * 2 ^ k
-  at-next = ap (λ (x : ℕ). sizeAt (x + 1)) bits-is ∙ ap sizeAt (add-assoc (k * 8388608) q 1) ∙ size-at k (q + 1) (omega (arith, q-range .0)) (omega (arith, q-range .1))
+  at-next =
+      ap (λ (x : ℕ). sizeAt (x + 1)) bits-is ∙ ap sizeAt (add-assoc (k * 8388608) q 1) ∙ size-at k (q + 1) (omega (arith, q-range .0))
+      (omega (arith, q-range .1))
 
   under-holds : 4 * (sizeAt b * 2 ^ 149) < (sizeAt (rootBitsOf b) + sizeAt (rootBitsOf b + 1)) * (sizeAt (rootBitsOf b) + sizeAt (rootBitsOf b + 1))
   under-holds = rw (squared-is, at, at-next) (under-mid (squaredOf b) q (2 ^ k) (pow-pos k) (q-near .1))
@@ -131,9 +136,11 @@ module _ (b : ℕ) (f : Finite b) where
   inside g =
       let r = q - 1 in
       let e : r + 1 ≡ q = omega arith in
-      let before : sizeAt (rootBitsOf b - 1) ≡ r * 2 ^ k = ap (λ (x : ℕ). sizeAt (x - 1)) bits-is ∙ ap sizeAt (back (k * 8388608) q (omega arith)) ∙ size-at k r (omega arith) (omega (arith, q-range .1)) in
+      let before : sizeAt (rootBitsOf b - 1) ≡ r * 2 ^ k =
+      ap (λ (x : ℕ). sizeAt (x - 1)) bits-is ∙ ap sizeAt (back (k * 8388608) q (omega arith)) ∙ size-at k r (omega arith) (omega (arith, q-range .1)) in
       let n : (r + 1) * r < squaredOf b = subst (λ (x : ℕ). x * r < squaredOf b) (sym e) (q-near .0) in
-      rw (squared-is, before, at) (subst (λ (x : ℕ). (r * 2 ^ k + x * 2 ^ k) * (r * 2 ^ k + x * 2 ^ k) < 4 * (squaredOf b * (2 ^ k * 2 ^ k))) e (over-mid (squaredOf b) r (2 ^ k) (pow-pos k) n))
+      rw (squared-is, before, at) (subst (λ (x : ℕ). (r * 2 ^ k + x * 2 ^ k) * (r * 2 ^ k + x * 2 ^ k) < 4 * (squaredOf b * (2 ^ k * 2 ^ k))) e
+      (over-mid (squaredOf b) r (2 ^ k) (pow-pos k) n))
     where
       back : (a q : ℕ) → 1 ≤ q → a + q - 1 ≡ a + (q - 1)
       back a q h = omega arith
@@ -143,7 +150,8 @@ module _ (b : ℕ) (f : Finite b) where
       let j = k - 1 in
       let e : suc j ≡ k = omega (arith, k-pos) in
       let twice : 2 ^ k ≡ 2 ^ j * 2 = ap (λ (x : ℕ). 2 ^ x) (sym e) ∙ pow-suc 2 j in
-      let before : sizeAt (rootBitsOf b - 1) ≡ 16777215 * 2 ^ j = ap (λ (x : ℕ). sizeAt (x - 1)) bits-is ∙ ap sizeAt (back k q k-pos (sym g)) ∙ size-at j 16777215 (omega arith) (omega arith) in
+      let before : sizeAt (rootBitsOf b - 1) ≡ 16777215 * 2 ^ j =
+      ap (λ (x : ℕ). sizeAt (x - 1)) bits-is ∙ ap sizeAt (back k q k-pos (sym g)) ∙ size-at j 16777215 (omega arith) (omega arith) in
       let here : sizeAt (rootBitsOf b) ≡ 8388608 * (2 ^ j * 2) = at ∙ ap (λ (x : ℕ). x * 2 ^ k) (sym g) ∙ ap (λ (x : ℕ). 8388608 * x) twice in
       let all : sizeAt b * 2 ^ 149 ≡ squaredOf b * (2 ^ j * 2 * (2 ^ j * 2)) = squared-is ∙ ap (λ (x : ℕ). squaredOf b * (x * x)) twice in
       rw (all, before, here) (over-edge (squaredOf b) (2 ^ j) (pow-pos j) (squared-range b f .0))

@@ -23,7 +23,8 @@ between-bits : (x : Float) (b c : ℕ) → sizeOf x ≡ sizeAt b → 2 ≤ c →
 between-bits x b c e l h m =
     let back = bits-back c (omega arith) in
     let here : sizeOf (ofBits binary32 c) ≡ sizeAt c = size-of-bits c (omega arith) in
-    let before : sizeOf (below (ofBits binary32 c)) ≡ sizeAt (c - 1) = ap (λ (y : ℕ). sizeOf (ofBits binary32 (y - 1))) back ∙ size-of-bits (c - 1) (omega arith) in
+    let before : sizeOf (below (ofBits binary32 c)) ≡ sizeAt (c - 1) =
+    ap (λ (y : ℕ). sizeOf (ofBits binary32 (y - 1))) back ∙ size-of-bits (c - 1) (omega arith) in
     let after : sizeOf (above (ofBits binary32 c)) ≡ sizeAt (c + 1) = ap (λ (y : ℕ). sizeOf (ofBits binary32 (y + 1))) back ∙ size-of-bits (c + 1) h in
     record {
       held = ofBits-fits binary32 c;
@@ -80,7 +81,8 @@ between-le x r r' p p' = not-more (λ (h : c < b). clash (apart b c h) (over-bit
 
 between-unique : (x r r' : Float) → Between x r → Between x r' → r ≡ r'
 between-unique x r r' p p' =
-    sym (ofBits-toBits binary32 r (p .held)) ∙ ap (ofBits binary32) (le-antisymm (between-le x r r' p p') (between-le x r' r p' p)) ∙ ofBits-toBits binary32 r' (p' .held)
+    sym (ofBits-toBits binary32 r (p .held)) ∙ ap (ofBits binary32) (le-antisymm (between-le x r r' p p') (between-le x r' r p' p))
+    ∙ ofBits-toBits binary32 r' (p' .held)
 
 pub unique : Unique
 unique nan r r' p p' = p ∙ sym p'

@@ -25,7 +25,9 @@ pub own-size : (r : Float) → T (fits binary32 r) → T (positive r) → sizeOf
 own-size r t p = ap sizeOf (sym (ofBits-toBits binary32 r t)) ∙ size-of-bits (toBits binary32 r) (finite-bits r t p .1)
 
 pub exact : Exact
-exact r t p = go r (subst (λ (x : Float). HasValue x false (sizeAt (toBits binary32 r)) (2 ^ 149)) (ofBits-toBits binary32 r t) (read (toBits binary32 r) (finite-bits r t p .1))) (own-size r t p)
+exact r t p =
+    go r (subst (λ (x : Float). HasValue x false (sizeAt (toBits binary32 r)) (2 ^ 149)) (ofBits-toBits binary32 r t)
+    (read (toBits binary32 r) (finite-bits r t p .1))) (own-size r t p)
   where
     go : (r : Float) {a : ℕ} → HasValue r false a (2 ^ 149) → sizeOf r ≡ a → num r * 2 ^ 149 ≡ sizeOf r * den r
     go nan h e = absurd h
@@ -33,7 +35,8 @@ exact r t p = go r (subst (λ (x : Float). HasValue x false (sizeAt (toBits bina
     go (fin s m x) h e = h .1 ∙ ap (λ (y : ℕ). y * down x) (sym e)
 
 -- the larger float has the larger bits
-bits-order : (r y : Float) → T (fits binary32 r) → T (positive r) → T (fits binary32 y) → T (positive y) → sizeOf r < sizeOf y → toBits binary32 r < toBits binary32 y
+bits-order : (r y : Float) → T (fits binary32 r) → T (positive r) → T (fits binary32 y) → T (positive y) → sizeOf r < sizeOf y
+    → toBits binary32 r < toBits binary32 y
 bits-order r y t p u o h = lt-of-not-le (λ g. clash (own-size r t p) (own-size y u o) (size-mono (toBits binary32 y) (toBits binary32 r) g) h)
   where
     clash : {a b c d : ℕ} → a ≡ c → b ≡ d → d ≤ c → a < b → ⊥
@@ -42,9 +45,11 @@ bits-order r y t p u o h = lt-of-not-le (λ g. clash (own-size r t p) (own-size 
 pub next-above : NextAbove
 next-above r y t p u o h =
     let l = bits-order r y t p u o h in
-    rw (size-of-bits (toBits binary32 r + 1) (omega (arith, l, finite-bits y u o .1)), own-size y u o) (size-mono (toBits binary32 r + 1) (toBits binary32 y) (omega (arith, l)))
+    rw (size-of-bits (toBits binary32 r + 1) (omega (arith, l, finite-bits y u o .1)), own-size y u o)
+    (size-mono (toBits binary32 r + 1) (toBits binary32 y) (omega (arith, l)))
 
 pub next-below : NextBelow
 next-below r y t p u o h =
     let l = bits-order y r u o t p h in
-    rw (own-size y u o, size-of-bits (toBits binary32 r - 1) (omega (arith, finite-bits r t p .1))) (size-mono (toBits binary32 y) (toBits binary32 r - 1) (omega (arith, l)))
+    rw (own-size y u o, size-of-bits (toBits binary32 r - 1) (omega (arith, finite-bits r t p .1)))
+    (size-mono (toBits binary32 y) (toBits binary32 r - 1) (omega (arith, l)))

@@ -3,7 +3,8 @@ use mathlib.Core.Path.{_≡_, refl, sym, ap, _∙_, subst}
 use mathlib.Core.Logic.{inl, inr}
 use mathlib.Core.Bool.{Bool, true, false, not, _&&_, true≢false}
 use Prim.Native.Nat.{ℕ, zero, suc, _+_, _-_, _*_, _/_, _%_, _^_, _≤_, _<_}
-use native.Mathlib.Nat.{eq-or-lt-of-le, lt-irrefl, lt-of-lt-of-le, le-refl, le-trans, le-of-eq, le-of-lt, mul-one, zero-mul, mul-pos, mul-right-comm, mul-div-cancel, mul-lt-mul-of-pos-right, div-lt-iff-lt-mul, pow-suc}
+use native.Mathlib.Nat.{eq-or-lt-of-le, lt-irrefl, lt-of-lt-of-le, le-refl, le-trans, le-of-eq, le-of-lt}
+use native.Mathlib.Nat.{mul-one, zero-mul, mul-pos, mul-right-comm, mul-div-cancel, mul-lt-mul-of-pos-right, div-lt-iff-lt-mul, pow-suc}
 use native.Mathlib.Decide.{decLt, le-ind}
 use native.Mathlib.Numerals.{add-one, lt-add-one}
 use borrow.Author.Tests.{le-ltb, lt-leb, ne-eqb}
@@ -92,8 +93,8 @@ size-low b h = elim (eq-or-lt-of-le h) [
 ]
 
 -- the next pattern is the next size up
-pub size-step : (b : ℕ) → sizeAt b < sizeAt (b + 1)
-size-step b = elim (decLt b 8388608) [
+pub size-grows : (b : ℕ) → sizeAt b < sizeAt (b + 1)
+size-grows b = elim (decLt b 8388608) [
   | yes l ↦ low (size-low b (le-of-lt l)) (size-low (b + 1) (omega arith))
   | no n ↦
       let g : 8388608 ≤ b = omega arith in
@@ -114,7 +115,9 @@ size-step b = elim (decLt b 8388608) [
     parts-next g = omega arith
 
 pub size-mono : (b c : ℕ) → b ≤ c → sizeAt b ≤ sizeAt c
-size-mono b c h = le-ind (λ (x : ℕ). sizeAt b ≤ sizeAt x) (le-refl (sizeAt b)) (λ x l i. le-trans i (subst (λ (y : ℕ). sizeAt x ≤ sizeAt y) (add-one x) (le-of-lt (size-step x)))) c h
+size-mono b c h =
+    le-ind (λ (x : ℕ). sizeAt b ≤ sizeAt x) (le-refl (sizeAt b))
+    (λ x l i. le-trans i (subst (λ (y : ℕ). sizeAt x ≤ sizeAt y) (add-one x) (le-of-lt (size-grows x)))) c h
 
 pub positive-bits : (b : ℕ) → 1 ≤ b → b < 0x7f80_0000 → T (positive (ofBits binary32 b))
 positive-bits b p h = positive-value (ofBits binary32 b) (sizeAt b) (le-trans (le-of-eq (sym (size-low 1 (omega arith)))) (size-mono 1 b p)) (read b h)
@@ -127,7 +130,8 @@ unfolding fits toBits
 bits-lt m e t =
     let n = suc m * up e * 2 ^ 149 / down e in
     let l : suc m * up e < 2 ^ 128 * down e =
-    ltb→lt (suc m * up e) (2 ^ 128 * down e) (and-r (eqb (suc m % 2) 1 && ltb (suc m) (2 ^ 24) && leb (down e) (2 ^ 149)) (ltb (suc m * up e) (2 ^ 128 * down e)) t) in
+    ltb→lt (suc m * up e) (2 ^ 128 * down e)
+    (and-r (eqb (suc m % 2) 1 && ltb (suc m) (2 ^ 24) && leb (down e) (2 ^ 149)) (ltb (suc m * up e) (2 ^ 128 * down e)) t) in
     let n-lt : n < 2 ^ 277 = div-lt-iff-lt-mul (down-pos e) .1 (scaled (suc m * up e) (down e) l) in
     bound (size n) (n / 2 ^ (size n - 24)) (size-le n 277 n-lt) (kept-lt 24 n)
   where

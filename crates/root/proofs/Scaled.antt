@@ -23,7 +23,8 @@ moved b p h =
       count (leadingZeros 32 b) j (l .1),
       j-lt,
       le-trans (le-of-eq (ap (λ (x : ℕ). 2 ^ x) (sym (whole j j-lt)) ∙ pow-add 2 j (23 - j))) (mul-le-mul-right (2 ^ (23 - j)) (l .2)),
-      lt-of-lt-of-le (mul-lt-mul-of-pos-right (l .3) (pow-pos (23 - j))) (le-of-eq (sym (pow-add 2 (suc j) (23 - j)) ∙ ap (λ (x : ℕ). 2 ^ x) (whole-up j j-lt))),
+      lt-of-lt-of-le (mul-lt-mul-of-pos-right (l .3) (pow-pos (23 - j)))
+          (le-of-eq (sym (pow-add 2 (suc j) (23 - j)) ∙ ap (λ (x : ℕ). 2 ^ x) (whole-up j j-lt))),
     )
   where
     wide : (b : ℕ) → b < 8388608 → b < 2 ^ 32
@@ -77,7 +78,8 @@ unfolding significandOf
 significand-range b f = go (ltb b 8388608) (ltb→lt b 8388608)
   where
     go : (t : Bool) → (T t → b < 8388608)
-        → (8388608 ≤ cond t (b * 2 ^ (leadingZeros 32 b - 8)) (8388608 + b % 8388608)) × (cond t (b * 2 ^ (leadingZeros 32 b - 8)) (8388608 + b % 8388608) < 16777216)
+        → (8388608 ≤ cond t (b * 2 ^ (leadingZeros 32 b - 8)) (8388608 + b % 8388608)) ×
+        (cond t (b * 2 ^ (leadingZeros 32 b - 8)) (8388608 + b % 8388608) < 16777216)
     go true h = (moved-ge b (f .0) (h tt), moved-small b (f .0) (h tt))
     go false h = (omega arith, omega arith)
 
@@ -85,7 +87,8 @@ pub exponent-range : (b : ℕ) → Finite b → (103 ≤ exponentOf b) × (expon
 unfolding exponentOf
 exponent-range b f = go (ltb b 8388608) (ltb→lt b 8388608) (nltb→le b 8388608)
   where
-    go : (t : Bool) → (T t → b < 8388608) → (T (not t) → 8388608 ≤ b) → (103 ≤ cond t (134 - leadingZeros 32 b) (125 + b / 8388608)) × (cond t (134 - leadingZeros 32 b) (125 + b / 8388608) < 380)
+    go : (t : Bool) → (T t → b < 8388608) → (T (not t) → 8388608 ≤ b)
+        → (103 ≤ cond t (134 - leadingZeros 32 b) (125 + b / 8388608)) × (cond t (134 - leadingZeros 32 b) (125 + b / 8388608) < 380)
     go true h k = let m = moved b (f .0) (h tt) in (omega (arith, m .1, m .2), omega (arith, m .1, m .2))
     go false h k = let l : 8388608 ≤ b = k tt in (omega (arith, f .1), omega (arith, f .1))
 
@@ -93,7 +96,9 @@ pub squared-range : (b : ℕ) → Finite b → (2 ^ 46 ≤ squaredOf b) × (squa
 unfolding squaredOf
 squared-range b f = go (eqb (exponentOf b % 2) 0) (significand-range b f)
   where
-    go : (t : Bool) → (8388608 ≤ significandOf b) × (significandOf b < 16777216) → (2 ^ 46 ≤ cond t (significandOf b * 8388608) (significandOf b * 16777216)) × (cond t (significandOf b * 8388608) (significandOf b * 16777216) ≤ 2 ^ 48 - 2 ^ 24)
+    go : (t : Bool) → (8388608 ≤ significandOf b) × (significandOf b < 16777216)
+        → (2 ^ 46 ≤ cond t (significandOf b * 8388608) (significandOf b * 16777216)) ×
+        (cond t (significandOf b * 8388608) (significandOf b * 16777216) ≤ 2 ^ 48 - 2 ^ 24)
     go true h = (omega arith, omega arith)
     go false h = (omega arith, omega arith)
 

@@ -15,8 +15,8 @@ abbrev Cut : ℕ → ℕ → Type 0
 Cut n s = (s * s ≤ n) × (n < (s + 1) * (s + 1))
 
 -- one digit more
-step : (n s : ℕ) → Cut (n / 4) s → Cut n (cond (leb ((2 * s + 1) * (2 * s + 1)) n) (2 * s + 1) (2 * s))
-step n s h = go (leb ((2 * s + 1) * (2 * s + 1)) n) (leb→le ((2 * s + 1) * (2 * s + 1)) n) (nleb→lt ((2 * s + 1) * (2 * s + 1)) n)
+one-digit : (n s : ℕ) → Cut (n / 4) s → Cut n (cond (leb ((2 * s + 1) * (2 * s + 1)) n) (2 * s + 1) (2 * s))
+one-digit n s h = go (leb ((2 * s + 1) * (2 * s + 1)) n) (leb→le ((2 * s + 1) * (2 * s + 1)) n) (nleb→lt ((2 * s + 1) * (2 * s + 1)) n)
   where
     go : (t : Bool) → (T t → (2 * s + 1) * (2 * s + 1) ≤ n) → (T (not t) → n < (2 * s + 1) * (2 * s + 1)) → Cut n (cond t (2 * s + 1) (2 * s))
     go true a b = let l : (2 * s + 1) * (2 * s + 1) ≤ n = a tt in (l, omega arith)
@@ -31,7 +31,7 @@ only-zero n h = (omega arith, omega arith)
 floor-cuts : (k n : ℕ) → n < 4 ^ k → Cut n (floorRoot k n)
 unfolding floorRoot
 floor-cuts zero n h = only-zero n h
-floor-cuts (suc k) n h = step n (floorRoot k (n / 4)) (floor-cuts k (n / 4) (quarter n k h))
+floor-cuts (suc k) n h = one-digit n (floorRoot k (n / 4)) (floor-cuts k (n / 4) (quarter n k h))
 
 -- ---- the root, to nearest
 

@@ -19,13 +19,7 @@ pub of-two
     × (Root two (ofBits binary32 0xBFB5_04F3) → ⊥)
     × (Root two nan → ⊥)
 unfolding ofBits toBits
-of-two = (
-  λ h. lt→ltb _ _ (h .over),
-  λ h. lt→ltb _ _ (h .under),
-  λ h. lt→ltb _ _ (h .over),
-  λ h. h .over-zero,
-  λ h. h .over-zero,
-)
+of-two = (λ h. lt→ltb _ _ (h .over), λ h. lt→ltb _ _ (h .under), λ h. lt→ltb _ _ (h .over), λ h. h .over-zero, λ h. h .over-zero)
 
 -- of the largest f32: the power of two above its root
 pub of-largest : Root (ofBits binary32 0x7F7F_FFFF) (fin false 1 (pos 64)) → ⊥

@@ -1,4 +1,5 @@
--- The root of an f32 (01, "The root"): `sqrtOf` computes it, `Root` says what a root is, and the theorems at the end join the two. Definitions and statements only.
+-- The root of an f32 (01, "The root"): `sqrtOf` computes it, `Root` says what a root is, and the theorems at the end join the two. Definitions and
+-- statements only.
 use mathlib.Core.Path.{_≡_}
 use Prim.Native.Nat.{ℕ, zero, suc, _+_, _-_, _*_, _/_, _%_, _^_, _≤_, _<_}
 use mathlib.Core.Bool.{true, false, cond}
@@ -18,7 +19,8 @@ floorRoot (suc k) n = let s = 2 * floorRoot k (n / 4) in cond (leb ((s + 1) * (s
 unfoldable pub nearestRootOf : ℕ → ℕ
 nearestRootOf n = let f = floorRoot 24 n in cond (leb n (f * (f + 1))) f (f + 1)
 
--- ---- bits: a finite number above zero has the bits b from 1 to 0x7f7f_ffff, and is significandOf b * 2 ^ (exponentOf b - 275), with a significandOf b of 24 digits
+-- ---- bits: a finite number above zero has the bits b from 1 to 0x7f7f_ffff, and is significandOf b * 2 ^ (exponentOf b - 275), with a significandOf
+-- b of 24 digits
 
 unfoldable pub significandOf : ℕ → ℕ
 significandOf b = cond (ltb b 8388608) (b * 2 ^ (leadingZeros 32 b - 8)) (8388608 + b % 8388608)

@@ -18,5 +18,7 @@ ratio-finite a (pos zero) f = refl
 ratio-finite a (pos (suc n)) f = quotient-finite a (pos (suc n)) (f .sfits) (omega arith)
 ratio-finite a (negsuc n) f = quotient-finite a (negsuc n) (f .sfits) (omega arith)
 
-pub ratio : (r : Rejection) (timeout : ℤ) {x : Float} → SFits w32 (r .«recovery_trigger») → x ≡ ratioOf (r .«recovery_trigger») timeout → Ratio r timeout x
+pub ratio
+    : (r : Rejection) (timeout : ℤ) {x : Float}
+    → SFits w32 (r .«recovery_trigger») → x ≡ ratioOf (r .«recovery_trigger») timeout → Ratio r timeout x
 ratio r timeout f e = record { exact = e; is-finite = ap finite e ∙ ratio-finite (r .«recovery_trigger») timeout f }

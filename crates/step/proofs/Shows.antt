@@ -1,4 +1,4 @@
--- What a step works out is finite only where what was measured, and the orientation before it, are. Assumes nothing.
+-- What an update works out is finite only where what was measured, and the orientation before it, are. Assumes nothing.
 use mathlib.Core.Path.{_≡_, refl}
 use mathlib.Core.Bool.{Bool, true, false, cond}
 use lib.Ieee.{Float, lt}
@@ -11,9 +11,10 @@ use Rattle.math.specs.declared.quaternion.Quaternion.{Quaternion}
 use Rattle.math.specs.Quaternions as quaternion
 use Rattle.math.specs.Quaternions.{finiteQuaternion, vectorProductOf}
 use Rattle.math.proofs.Shows as quaternions
-use Rattle.step.specs.declared.config.Config.{Config}
+use Rattle.settings.specs.declared.config.Config.{Config}
 use Rattle.step.specs.declared.Rejection.{Rejection}
-use Rattle.step.specs.Sensor.{residualOf, skippedOf, rejectedOf, headingOf, finiteRejection}
+use Rattle.step.specs.declared.sensor.Feedback.{Feedback}
+use Rattle.step.specs.Sensor.{residualOf, skippedOf, rejectedOf, halfHeadingFeedbackOf, finiteRejection}
 use Rattle.step.specs.Direction.{half}
 use Rattle.step.specs.Rate.{degToRad, rateOf, integratedOf}
 
@@ -21,7 +22,8 @@ pub rate-shows : (g f : Vector) (gain : Float) → finiteVector (rateOf g f gain
 unfolding rateOf
 rate-shows g f gain h = mul-shows g (degToRad ⊗ half) (add-shows (mulOf g (degToRad ⊗ half)) (mulOf f gain) h .0) .0
 
-pub integrated-shows : (q : Quaternion) (d : Vector) → finiteQuaternion (integratedOf q d) ≡ true → (finiteQuaternion q ≡ true) × (finiteVector d ≡ true)
+pub integrated-shows
+    : (q : Quaternion) (d : Vector) → finiteQuaternion (integratedOf q d) ≡ true → (finiteQuaternion q ≡ true) × (finiteVector d ≡ true)
 unfolding integratedOf
 integrated-shows q d h =
     let turned = vectorProductOf q d in
@@ -36,14 +38,18 @@ residual-shows s r h = go (lt float.zero (dotOf s r)) h
     go true k = cross-shows s r k .0
     go false k = cross-shows s r (normalize-shows (crossOf s r) k) .0
 
-pub heading-shows : (r : Rejection) (gravity west m : Vector) (startup : Bool) (c : Config) → finiteRejection (headingOf r gravity west m startup c .rejection) ≡ true → finiteVector m ≡ true
-unfolding headingOf rejectedOf finiteRejection
+pub heading-shows
+    : (r : Rejection) (gravity west m : Vector) (startup : Bool) (c : Config)
+    → finiteRejection (halfHeadingFeedbackOf r gravity west m startup c .rejection) ≡ true → finiteVector m ≡ true
+unfolding halfHeadingFeedbackOf rejectedOf finiteRejection
 heading-shows r gravity west m startup c h = go (isZeroOf m) refl h
   where
     sensor : Vector
     sensor = normalizeOf (crossOf gravity m)
 
-    go : (b : Bool) → isZeroOf m ≡ b
-        → finiteRejection (cond b (skippedOf r) (rejectedOf r (residualOf sensor west) startup (c .«magnetic_rejection») (c .«rejection_timeout»)) .rejection) ≡ true → finiteVector m ≡ true
+    kept : Feedback
+    kept = rejectedOf r (residualOf sensor west) startup (c .«magnetic_rejection») (c .«rejection_timeout»)
+
+    go : (b : Bool) → isZeroOf m ≡ b → finiteRejection (cond b (skippedOf r) kept .rejection) ≡ true → finiteVector m ≡ true
     go true e k = zero-shows m e
     go false e k = cross-shows gravity m (normalize-shows (crossOf gravity m) (residual-shows sensor west k)) .1

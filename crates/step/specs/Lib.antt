@@ -1,4 +1,3 @@
-pub mod Config
 pub mod Sensor
 pub mod Direction
 pub mod Rate

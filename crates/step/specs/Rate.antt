@@ -7,25 +7,25 @@ use Rattle.math.specs.declared.quaternion.Quaternion.{Quaternion}
 use Rattle.vector.specs.Vectors.{addOf, mulOf}
 use Rattle.math.specs.Quaternions as quaternion
 use Rattle.math.specs.Quaternions.{vectorProductOf}
-use Rattle.step.specs.declared.config.Config.{Config}
-use Rattle.step.specs.declared.rate.Ramped.{Ramped}
+use Rattle.settings.specs.declared.config.Config.{Config}
+use Rattle.step.specs.declared.rate.Startup.{Startup}
 use Rattle.step.specs.Direction.{half}
 
 -- pi / 180 as the Rust has it
 abbrev pub degToRad : Float
 degToRad = ofBits binary32 0x3c8e_fa35
 
-abbrev pub ramped : Bool → Float → Bool → Float → Ramped
-ramped startup startupGain recovery gain =
-    record { startup = startup; «startup_gain» = startupGain; «overrange_recovery» = recovery; gain = gain }
+abbrev pub startup : Bool → Float → Bool → Float → Startup
+startup on startupGain recovery gain =
+    record { startup = on; «startup_gain» = startupGain; «overrange_recovery» = recovery; gain = gain }
 
 -- it falls before use; startup ends when it is no longer above the gain
-unfoldable pub rampedOf : Config → Bool → Float → Bool → Ramped
-rampedOf c startup startupGain recovery =
+unfoldable pub startupGainOf : Config → Bool → Float → Bool → Startup
+startupGainOf c on startupGain recovery =
     let fallen = startupGain ⊖ c .«startup_gain_rate» in
-    cond startup
-    (cond (lt (c .gain) fallen) (ramped true fallen recovery fallen) (ramped false fallen false (c .gain)))
-    (ramped false startupGain recovery (c .gain))
+    cond on
+    (cond (lt (c .gain) fallen) (startup true fallen recovery fallen) (startup false fallen false (c .gain)))
+    (startup false startupGain recovery (c .gain))
 
 -- the gyroscope in half radians, and the feedback times the gain
 unfoldable pub rateOf : Vector → Vector → Float → Vector

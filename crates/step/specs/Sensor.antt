@@ -1,4 +1,4 @@
--- 01, "Filter": one sensor's rejection step. Its counts are those of the crate `rejection`.
+-- 01, "Filter": one sensor's rejection. Its counts are those of the crate `rejection`.
 use mathlib.Core.Path.{_≡_}
 use mathlib.Core.Bool.{Bool, true, false, not, cond, _||_}
 use Prim.Native.Nat.{zero, suc}
@@ -10,10 +10,10 @@ use Rattle.number.specs.Float32.{_⊘_}
 use Rattle.vector.specs.declared.Vector.{Vector}
 use Rattle.vector.specs.Vectors.{zeroVector, finiteVector, isZeroOf, normSquaredOf, dotOf, crossOf, normalizeOf}
 use Rattle.rejection.specs.declared.Counts.{Counts}
-use Rattle.rejection.specs.declared.Stepped.{Stepped}
-use Rattle.rejection.specs.Step.{stepOf}
+use Rattle.rejection.specs.declared.Updated.{Updated}
+use Rattle.rejection.specs.Counts.{updatedOf}
 use Rattle.step.specs.declared.Rejection.{Rejection}
-use Rattle.step.specs.declared.config.Config.{Config}
+use Rattle.settings.specs.declared.config.Config.{Config}
 use Rattle.step.specs.declared.sensor.Feedback.{Feedback}
 
 abbrev pub countsOf : Rejection → Counts
@@ -42,8 +42,8 @@ skippedOf r =
       «half_feedback» = zeroVector;
     }
 
--- the counts of a step are kept, and the residual is used or ignored as it says; one that is ignored gives zero
-abbrev pub keptOf : Vector → Stepped → Feedback
+-- the counts are kept, and the residual is used or ignored as it says; one that is ignored gives zero
+abbrev pub keptOf : Vector → Updated → Feedback
 keptOf residual s =
     record {
       rejection =
@@ -59,17 +59,17 @@ keptOf residual s =
 -- a reading is good in startup, or where its squared residual is at most the limit
 unfoldable pub rejectedOf : Rejection → Vector → Bool → Float → ℤ → Feedback
 rejectedOf r residual startup limit timeout =
-    keptOf residual (stepOf timeout (countsOf r) (not (startup || le (normSquaredOf residual) limit)))
+    keptOf residual (updatedOf timeout (countsOf r) (not (startup || le (normSquaredOf residual) limit)))
 
 -- the accelerometer against gravity
-unfoldable pub inclinationOf : Rejection → Vector → Vector → Bool → Config → Feedback
-inclinationOf r gravity accelerometer startup c =
+unfoldable pub halfInclinationFeedbackOf : Rejection → Vector → Vector → Bool → Config → Feedback
+halfInclinationFeedbackOf r gravity accelerometer startup c =
     cond (isZeroOf accelerometer) (skippedOf r)
     (rejectedOf r (residualOf (normalizeOf accelerometer) gravity) startup (c .«acceleration_rejection») (c .«rejection_timeout»))
 
 -- the cross product of gravity and the magnetometer against west
-unfoldable pub headingOf : Rejection → Vector → Vector → Vector → Bool → Config → Feedback
-headingOf r gravity west magnetometer startup c =
+unfoldable pub halfHeadingFeedbackOf : Rejection → Vector → Vector → Vector → Bool → Config → Feedback
+halfHeadingFeedbackOf r gravity west magnetometer startup c =
     cond (isZeroOf magnetometer) (skippedOf r)
     (rejectedOf r (residualOf (normalizeOf (crossOf gravity magnetometer)) west) startup (c .«magnetic_rejection») (c .«rejection_timeout»))
 

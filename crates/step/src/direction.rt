@@ -5,7 +5,7 @@ ghost use mathlib.Core.Path.{_≡_};
 ghost use Rattle.step.specs.Direction.{halfGravityOf, halfWestOf};
 
 // Half of gravity's direction in the sensor's frame.
-pub fn half_gravity(convention: u8, q: Quaternion) -> Vector
+pub fn calculate_half_gravity(convention: u8, q: Quaternion) -> Vector
     ensures { λ r. ⌜ r ≡ halfGravityOf convention q ⌝ }
 {
     if convention == 2 {
@@ -23,7 +23,7 @@ pub fn half_gravity(convention: u8, q: Quaternion) -> Vector
 }
 
 // Half of west's direction in the sensor's frame.
-pub fn half_west(convention: u8, q: Quaternion) -> Vector
+pub fn calculate_half_west(convention: u8, q: Quaternion) -> Vector
     ensures { λ r. ⌜ r ≡ halfWestOf convention q ⌝ }
 {
     if convention == 0 {

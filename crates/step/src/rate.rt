@@ -3,12 +3,12 @@ use super::Config;
 use math::Quaternion;
 use vector::Vector;
 ghost use mathlib.Core.Path.{_≡_};
-ghost use Rattle.step.specs.Rate.{rampedOf, rateOf, integratedOf};
+ghost use Rattle.step.specs.Rate.{startupGainOf, rateOf, integratedOf};
 
 const DEG_TO_RAD: f32 = 0.017453292;
 
-// What the startup ramp leaves, and the gain to apply.
-pub struct Ramped {
+// What startup leaves, and the gain to apply.
+pub struct Startup {
     pub startup: bool,
     pub startup_gain: f32,
     pub overrange_recovery: bool,
@@ -16,12 +16,17 @@ pub struct Ramped {
 }
 
 // The gain falls before use, and startup ends when it is no longer above the settings' gain.
-pub fn ramp(config: Config, startup: bool, startup_gain: f32, overrange_recovery: bool) -> Ramped
-    ensures { λ r. ⌜ r ≡ rampedOf config startup «startup_gain» «overrange_recovery» ⌝ }
+pub fn startup_gain(
+    config: Config,
+    startup: bool,
+    startup_gain: f32,
+    overrange_recovery: bool,
+) -> Startup
+    ensures { λ r. ⌜ r ≡ startupGainOf config startup «startup_gain» «overrange_recovery» ⌝ }
 {
     let gain = config.gain;
     if !startup {
-        return Ramped {
+        return Startup {
             startup,
             startup_gain,
             overrange_recovery,
@@ -30,14 +35,14 @@ pub fn ramp(config: Config, startup: bool, startup_gain: f32, overrange_recovery
     }
     let fallen = startup_gain - config.startup_gain_rate;
     if fallen > gain {
-        return Ramped {
+        return Startup {
             startup,
             startup_gain: fallen,
             overrange_recovery,
             gain: fallen,
         };
     }
-    Ramped {
+    Startup {
         startup: false,
         startup_gain: fallen,
         overrange_recovery: false,
@@ -53,7 +58,7 @@ pub fn half_angular_rate(gyroscope: Vector, half_feedback: Vector, gain: f32) ->
     half_gyroscope.add(half_feedback.mul(gain))
 }
 
-pub fn integrate(q: Quaternion, half_angular_displacement: Vector) -> Quaternion
+pub fn integrate_quaternion(q: Quaternion, half_angular_displacement: Vector) -> Quaternion
     ensures { λ r. ⌜ r ≡ integratedOf q «half_angular_displacement» ⌝ }
 {
     q.add(q.vector_product(half_angular_displacement))

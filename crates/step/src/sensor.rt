@@ -1,10 +1,11 @@
-// One sensor's rejection step; its counts are the crate `rejection`'s.
+// One sensor's rejection; its counts are the crate `rejection`'s.
 use super::Config;
 use super::Rejection;
 use rejection::Counts;
 use vector::Vector;
 ghost use mathlib.Core.Path.{_≡_};
-ghost use Rattle.step.specs.Sensor.{resetOf, residualOf, skippedOf, rejectedOf, inclinationOf, headingOf, countsOf, Ratio, finiteRejection};
+ghost use Rattle.step.specs.Sensor.{resetOf, residualOf, skippedOf, rejectedOf, halfInclinationFeedbackOf, halfHeadingFeedbackOf};
+ghost use Rattle.step.specs.Sensor.{countsOf, Ratio, finiteRejection};
 
 // A sensor's next rejection, and the feedback to apply, scaled by 0.5.
 pub struct Feedback {
@@ -63,7 +64,7 @@ impl Rejection {
         }
     }
 
-    // One rejection step with a new residual.
+    // With a new residual.
     pub fn update(
         self,
         half_residual: Vector,
@@ -74,9 +75,9 @@ impl Rejection {
         ensures { λ r. ⌜ r ≡ rejectedOf self «half_residual» startup rejection timeout ⌝ }
     {
         let good = startup | (half_residual.norm_squared() <= rejection);
-        let stepped = self.counts().step(!good, timeout);
-        let counts = stepped.counts;
-        if stepped.used {
+        let updated = self.counts().update(!good, timeout);
+        let counts = updated.counts;
+        if updated.used {
             return Feedback {
                 rejection: Rejection {
                     half_residual,
@@ -99,15 +100,15 @@ impl Rejection {
         }
     }
 
-    // The accelerometer's step.
-    pub fn inclination(
+    // The accelerometer's.
+    pub fn half_inclination_feedback(
         self,
         half_gravity: Vector,
         accelerometer: Vector,
         startup: bool,
         config: Config,
     ) -> Feedback
-        ensures { λ r. ⌜ r ≡ inclinationOf self «half_gravity» accelerometer startup config ⌝ }
+        ensures { λ r. ⌜ r ≡ halfInclinationFeedbackOf self «half_gravity» accelerometer startup config ⌝ }
     {
         if accelerometer.is_zero() {
             return self.skip();
@@ -121,8 +122,8 @@ impl Rejection {
         )
     }
 
-    // The magnetometer's step.
-    pub fn heading(
+    // The magnetometer's.
+    pub fn half_heading_feedback(
         self,
         half_gravity: Vector,
         half_west: Vector,
@@ -130,7 +131,7 @@ impl Rejection {
         startup: bool,
         config: Config,
     ) -> Feedback
-        ensures { λ r. ⌜ r ≡ headingOf self «half_gravity» «half_west» magnetometer startup config ⌝ }
+        ensures { λ r. ⌜ r ≡ halfHeadingFeedbackOf self «half_gravity» «half_west» magnetometer startup config ⌝ }
     {
         if magnetometer.is_zero() {
             return self.skip();

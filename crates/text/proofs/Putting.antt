@@ -1,12 +1,13 @@
--- A text over what a slice held: nothing, a copy, and one text behind another. Assumes nothing.
-use Prim.Native.Nat.{ℕ, _-_, _≤_}
+-- A text over what a slice held: nothing, a copy, one text behind another, and a text where it fits. Assumes nothing.
+use Prim.Native.Nat.{ℕ, _-_, _≤_, _<_}
 use native.Mathlib.Omega.{arith}
 use mathlib.Core.Path.{_≡_, refl, ap, ap₂, sym, _∙_, subst}
 use mathlib.Core.List.{List, [], _++_, append-assoc, append-nil}
 use lib.ListN.{length, take, drop, length-append, length-drop, drop-of-length-le}
 use lib.Seq.{drop-drop, take-all, take-append-seam, drop-append-seam}
+use borrow.Author.Tests.{le-leb, lt-leb}
 use borrow.Rule.Slice.PartMut.{midOf, postOf, putMid}
-use Rattle.text.specs.Putting.{over, Puts}
+use Rattle.text.specs.Putting.{over, Puts, Fits}
 
 -- the same text, by another name
 pub puts-as : {t u old after : List ℕ} {n : ℕ} → t ≡ u → Puts t old after n → Puts u old after n
@@ -44,3 +45,21 @@ over-over t u old =
     ap₂ (λ (x y : List ℕ). x ++ (u ++ drop (length u) y)) (take-append-seam t (drop (length t) old)) (drop-append-seam t (drop (length t) old))
     ∙ ap (λ (x : List ℕ). t ++ (u ++ x)) (drop-drop (length u) (length t) old ∙ ap (λ (k : ℕ). drop k old) (sym (length-append t u)))
     ∙ sym (append-assoc t u (drop (length (t ++ u)) old))
+
+-- ---- a text where it fits
+
+module _ (text old : List ℕ) where
+  pub too-long : length old < length text → Fits text old old 0
+  too-long h = record { count = rw (lt-leb (length text) (length old) h); holds = rw (lt-leb (length text) (length old) h) }
+
+  module _ {after : List ℕ} {n : ℕ} (h : length text ≤ length old) where
+    pub put-fits : Puts text old after n → Fits text old after n
+    put-fits p =
+        record { count = p .count ∙ rw (le-leb (length text) (length old) h); holds = p .holds ∙ rw (le-leb (length text) (length old) h) }
+
+    pub fits-put : Fits text old after n → Puts text old after n
+    fits-put f =
+        record { count = f .count ∙ rw (le-leb (length text) (length old) h); holds = f .holds ∙ rw (le-leb (length text) (length old) h) }
+
+pub fits-as : {t u old after : List ℕ} {n : ℕ} → t ≡ u → Fits t old after n → Fits u old after n
+fits-as {t} {u} {old} {after} {n} e f = subst (λ (x : List ℕ). Fits x old after n) e f

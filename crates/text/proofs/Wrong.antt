@@ -2,9 +2,10 @@
 use Prim.Native.Nat.{ℕ}
 use native.Mathlib.Omega.{arith}
 use mathlib.Core.Path.{_≡_, ap}
-use mathlib.Core.List.{[], _∷_}
-use lib.ListN.{length}
-use Rattle.text.specs.Text.{digitOf, wordOf, refusedOf}
+use mathlib.Core.List.{List, [], _∷_, _++_}
+use lib.ListN.{getD, replicate}
+use Rattle.text.specs.Text.{space, newline, digitOf, wordOf, decimalOf, refusedWord, refusedOf}
+use Rattle.text.specs.Putting.{over, Fits, Lined}
 
 -- of 10: `0000000a`, lower case; of 1: `10000000`, the lowest digit first
 pub of-word
@@ -13,9 +14,43 @@ pub of-word
 unfolding wordOf digitOf
 of-word = (λ h. let z : _≡_ {A = ℕ} 97 65 = cc in omega arith, λ h. let z : _≡_ {A = ℕ} 49 48 = cc in omega arith)
 
--- of 4: `refused 1`; the right number with no newline
-pub of-refused
-    : (114 ∷ 101 ∷ 102 ∷ 117 ∷ 115 ∷ 101 ∷ 100 ∷ 32 ∷ 49 ∷ 10 ∷ [] ≡ refusedOf 4 → ⊥)
-    × (114 ∷ 101 ∷ 102 ∷ 117 ∷ 115 ∷ 101 ∷ 100 ∷ 32 ∷ 52 ∷ [] ≡ refusedOf 4 → ⊥)
-unfolding refusedOf
-of-refused = (λ h. let z : _≡_ {A = ℕ} 49 52 = cc in omega arith, λ h. let z : _≡_ {A = ℕ} 9 10 = ap length h in omega arith)
+abbrev blank : ℕ → List ℕ
+blank n = replicate n 0
+
+-- of 7: `07`, a zero in front; of 10: `0`, its last digit, `01`, and `1` where there is room for one
+pub of-put-decimal
+    : ((after : List ℕ) → Fits (decimalOf 7) (blank 2) after 2 → ⊥)
+    × ((after : List ℕ) → Fits (decimalOf 10) (blank 2) after 1 → ⊥)
+    × (Fits (decimalOf 10) (blank 2) (48 ∷ 49 ∷ []) 2 → ⊥)
+    × (Fits (decimalOf 10) (blank 1) (49 ∷ []) 1 → ⊥)
+unfolding decimalOf over
+of-put-decimal = (
+  λ after h. let e = h .count in omega arith,
+  λ after h. let e = h .count in omega arith,
+  λ h. let z : _≡_ {A = ℕ} 48 49 = ap (λ (s : List ℕ). getD s 0 0) (h .holds) in omega arith,
+  λ h. let e = h .count in omega arith,
+)
+
+-- of 10: `refused 0`; of 4: `refused 1`, the right number with no newline, and a line cut where there is room for nine bytes
+pub of-put-refused
+    : ((after : List ℕ) → Fits (refusedOf 10) (blank 12) after 10 → ⊥)
+    × (Fits (refusedOf 4) (blank 10) (refusedWord ++ (space ∷ 49 ∷ newline ∷ [])) 10 → ⊥)
+    × ((after : List ℕ) → Fits (refusedOf 4) (blank 10) after 9 → ⊥)
+    × ((after : List ℕ) → Fits (refusedOf 4) (blank 9) after 9 → ⊥)
+unfolding refusedOf decimalOf over
+of-put-refused = (
+  λ after h. let e = h .count in omega arith,
+  λ h. let z : _≡_ {A = ℕ} 49 52 = ap (λ (s : List ℕ). getD s 8 0) (h .holds) in omega arith,
+  λ after h. let e = h .count in omega arith,
+  λ after h. let e = h .count in omega arith,
+)
+
+-- of 10: a line of ten bytes; of 4: `refused 1`
+pub of-refused-line
+    : ((s : List ℕ) → Lined (refusedOf 10) (record { text = s; n = 10 }) → ⊥)
+    × (Lined (refusedOf 4) (record { text = refusedWord ++ (space ∷ 49 ∷ newline ∷ newline ∷ newline ∷ []); n = 10 }) → ⊥)
+unfolding refusedOf decimalOf over
+of-refused-line = (
+  λ s h. let e = h .count in omega arith,
+  λ h. let z : _≡_ {A = ℕ} 49 52 = ap (λ (s : List ℕ). getD s 8 0) (h .holds) in omega arith,
+)

@@ -1,7 +1,8 @@
-// What the programs print: a word as eight hexadecimal digits, and the line of a refusal.
+// What the programs print: a word as eight hexadecimal digits, a whole number in decimal, and the line of a refusal.
 ghost use mathlib.Core.Path.{_≡_};
 ghost use Prim.Native.Nat.{_%_};
-ghost use Rattle.text.specs.Text.{digitOf, wordOf, refusedOf};
+ghost use Rattle.text.specs.Text.{digitOf, wordOf, decimalOf, refusedOf};
+ghost use Rattle.text.specs.Putting.{Fits, Lined};
 
 // The last hexadecimal digit of a number, upper case. A match is a table in memory, and takes fewer instructions than a test and a sum.
 fn digit(n: u32) -> u8
@@ -43,11 +44,45 @@ pub fn word(n: u32) -> [u8; 8]
     ]
 }
 
-// A refusal's line. The numbers of the table have one digit; of a larger one the last is printed.
-pub fn refused(number: u8) -> [u8; 10]
-    ensures { λ r. ⌜ r ≡ refusedOf number ⌝ }
+// Puts a text at the start of `out` where that has room for it; how many bytes were put.
+fn put(text: &[u8], out: &mut [u8]) -> usize
+    ensures { λ r. ⌜ Fits (now (text .entry)) (now (out .entry)) (now (out .exit)) r ⌝ }
 {
-    let mut text = *b"refused 0\n";
-    text[8] = number % 10 + b'0';
-    text
+    if text.len() > out.len() {
+        return 0;
+    }
+    bytes::copy(text, out)
+}
+
+// The digits of a number, no zero in front.
+pub fn put_decimal(n: u64, out: &mut [u8]) -> usize
+    ensures { λ r. ⌜ Fits (decimalOf n) (now (out .entry)) (now (out .exit)) r ⌝ }
+{
+    let mut digits = [0u8; 20];
+    let k = io::decimal(n, &mut digits);
+    put(&digits[..k], out)
+}
+
+// A refusal's line, and newlines behind it.
+pub struct Line {
+    pub text: [u8; 12],
+    pub n: usize,
+}
+
+// What the number's digits leave of the newlines ends the line.
+pub fn refused_line(number: u8) -> Line
+    ensures { λ r. ⌜ Lined (refusedOf number) r ⌝ }
+{
+    let mut text = *b"refused \n\n\n\n";
+    let k = put_decimal(number as u64, &mut text[8..]);
+    Line { text, n: 9 + k }
+}
+
+pub fn put_refused(number: u8, out: &mut [u8]) -> usize
+    ensures { λ r. ⌜ Fits (refusedOf number) (now (out .entry)) (now (out .exit)) r ⌝ }
+{
+    let line = refused_line(number);
+    let text = line.text;
+    let n = line.n;
+    put(&text[..n], out)
 }

@@ -8,7 +8,7 @@ use borrow.Author.Tests.{lt-ltb}
 use Rattle.answer.specs.declared.Answer.{Answer}
 use Rattle.answer.specs.declared.Answer.the-variants.{Refused}
 use Rattle.answer.specs.Refusals.{refusalOf, accepted, ascends}
-use Rattle.answer.specs.Answers.{Answers}
+use Rattle.answer.specs.Promises.{Answers}
 use Rattle.answer.proofs.Answering.{answers}
 use Rattle.answer.proofs.Table.{by-the-table}
 use Rattle.vector.specs.declared.Vector.{Vector}

@@ -3,4 +3,4 @@ use Rattle.answer.proofs.Answering.{only-one}
 use Rattle.vector.specs.Determined.{Determined}
 
 pub determined : Determined
-determined = record { turned = λ v n. only-one .answered _ _ _ _ _ }
+determined = record { turned = λ v n. only-one .answered _ _ _ _ }

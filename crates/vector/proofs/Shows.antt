@@ -1,5 +1,4 @@
--- A vector that is worked out is finite only where all that it is worked out of is: so a test of the result is one of the operands too.
--- Assumes nothing.
+-- A vector that is worked out is finite only where all that it is worked out of is: so a test of the result is one of the operands too. Assumes nothing.
 use mathlib.Core.Path.{_≡_, refl}
 use mathlib.Core.Bool.{Bool, true, false, cond, false≢true}
 use lib.Ieee.{Float, nan, inf, fin, binary32, eq, ofBits}

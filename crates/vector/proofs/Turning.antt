@@ -1,5 +1,4 @@
--- What turning keeps: tests of the three axes that pay no heed to signs, and sums, differences and multiples, zero's sign ignored.
--- Assumes nothing.
+-- What turning keeps: tests of the three axes that pay no heed to signs, and sums, differences and multiples, zero's sign ignored. Assumes nothing.
 use mathlib.Core.Path.{_≡_, refl, _∙_}
 use mathlib.Core.Bool.{Bool, true, false, _&&_, _||_, Bool·beq}
 use mathlib.Core.List.{List, [], _∷_}
@@ -100,7 +99,8 @@ read-test p e x y z Nz = e z
 abbrev ap3 : (f : Bool → Bool → Bool → Bool) {a a′ b b′ c c′ : Bool} → a ≡ a′ → b ≡ b′ → c ≡ c′ → f a b c ≡ f a′ b′ c′
 ap3 f p q r = λ i. f (p i) (q i) (r i)
 
-axis : (p : Float → Bool) → Even p → (v : Vector) (u : Float) (s : Signed) → Same u (read neg (v .x) (v .y) (v .z) s) → p u ≡ read itself (p (v .x)) (p (v .y)) (p (v .z)) s
+axis : (p : Float → Bool) → Even p → (v : Vector) (u : Float) (s : Signed) → Same u (read neg (v .x) (v .y) (v .z) s)
+    → p u ≡ read itself (p (v .x)) (p (v .y)) (p (v .z)) s
 axis p e v u s h = e .same h ∙ read-test p (e .even) (v .x) (v .y) (v .z) s
 
 -- a test of all three, or of any, by such a test of one

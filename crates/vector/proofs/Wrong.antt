@@ -10,9 +10,9 @@ use lib.ListN.{getD}
 use lib.Ieee.{Float, nan, inf, fin, ofBits, toBits, eq, lt, add, sub, mul, div, neg, sum, round, units, odd}
 use Rattle.answer.specs.declared.Answer.the-variants.{Refused}
 use Rattle.answer.specs.Refusals.{refusalOf}
-use Rattle.answer.specs.Answers.{Answers}
+use Rattle.answer.specs.Promises.{Answers}
 use Rattle.number.specs.Same.{fabsfOf}
-use Rattle.number.proofs.Apart.{apart, bits}
+use Rattle.number.proofs.Apart.{apart, bits, nought, minus-nought, one, two, half}
 use Rattle.root.specs.Root.{floorRoot, nearestRootOf, significandOf, exponentOf, squaredOf, rootBitsOf, sqrtOf}
 use Rattle.vector.specs.declared.Vector.{Vector}
 use Rattle.vector.specs.Vectors.{vector, zeroVector, onesVector, finiteVector, eqOf, isZeroOf, exceedsOf, sumOf, hadamardOf, dotOf, crossOf}
@@ -20,21 +20,6 @@ use Rattle.vector.specs.Vectors.{normSquaredOf, normOf, normalizeOf, add
 use Rattle.vector.specs.Mounting.{Px, Py, Pz, Nx, Ny, mounting, mountingOf, turnOf}
 use Rattle.vector.specs.Determinant.{determinantOf}
 use Rattle.vector.specs.Turned.{turnChecks, turnedAnswer}
-
-abbrev nought : Float
-nought = fin false 0 (pos 0)
-
-abbrev minus-nought : Float
-minus-nought = fin true 0 (pos 0)
-
-abbrev one : Float
-one = fin false 1 (pos 0)
-
-abbrev two : Float
-two = fin false 1 (pos 1)
-
-abbrev half : Float
-half = fin false 1 (negsuc 0)
 
 abbrev one-two-half : Vector
 one-two-half = vector one two half
@@ -180,8 +165,12 @@ pub of-turned
     × (Answers (turnChecks one-two-half 11) (turnedAnswer (turnOf 11 one-two-half)) (turnedAnswer one-two-half) → ⊥)
     × (Answers (turnChecks one-two-half 11) (turnedAnswer (turnOf 11 one-two-half)) (Refused 5) → ⊥)
     × (Answers (turnChecks one-two-half 24) (turnedAnswer (turnOf 24 one-two-half)) (turnedAnswer one-two-half) → ⊥)
+    × (Answers (turnChecks one-two-half 24) (turnedAnswer (turnOf 24 one-two-half)) (Refused 5) → ⊥)
+    × (Answers (turnChecks one-two-half 11) (turnedAnswer (turnOf 11 one-two-half)) (turnedAnswer (vector nought nought nought)) → ⊥)
 unfolding refusalOf mountingOf finiteVector
 of-turned = (
+  λ h. let e = h .exact in let z : _≡_ {A = ℕ} 0 1 = cc in omega arith,
+  λ h. let e = h .exact in let z : _≡_ {A = ℕ} 0 1 = cc in omega arith,
   λ h. let e = h .exact in let z : _≡_ {A = ℕ} 0 1 = cc in omega arith,
   λ h. let e = h .exact in let z : _≡_ {A = ℕ} 0 1 = cc in omega arith,
   λ h. let e = h .exact in let z : _≡_ {A = ℕ} 0 1 = cc in omega arith,

@@ -3,7 +3,7 @@ use super::Vector;
 use answer::Answer;
 ghost use mathlib.Core.Path.{_≡_};
 ghost use mathlib.Core.Bool.{cond};
-ghost use Rattle.answer.specs.Answers.{Answers};
+ghost use Rattle.answer.specs.Promises.{Answers};
 ghost use Rattle.vector.specs.Mounting.{turnOf};
 ghost use Rattle.vector.specs.Turned.{turnChecks, turnedAnswer};
 

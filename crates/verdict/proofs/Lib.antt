@@ -1,2 +1,2 @@
-pub mod Reading
+pub mod Reading  -- what a byte, and what a text, make of a verdict
 mod Wrong

@@ -1,14 +1,16 @@
 -- What a byte, and what all the bytes of a text, make of a verdict. Assumes nothing.
-use Prim.Native.Nat.{ℕ, _+_, _-_, _≤_, _<_}
+use Prim.Native.Nat.{ℕ, _+_, _*_, _-_, _≤_, _<_}
 use native.Mathlib.Omega.{arith}
 use native.Mathlib.Numerals.{add-one}
 use mathlib.Core.Path.{_≡_, refl, ap, sym, _∙_}
+use mathlib.Core.Bool.{Bool, true, false, _||_, false≢true}
 use mathlib.Core.List.{List, [], _∷_, _++_}
-use borrow.Author.Tests.{lt-ltb, le-ltb, eq-eqb, ne-eqb}
+use lib.Dec.{ltb}
+use borrow.Author.Tests.{lt-ltb, le-ltb, eq-eqb, ne-eqb, ltb-false}
 use lib.ListN.{length, take, getD}
 use lib.Seq.{take-suc, take-all}
 use Rattle.verdict.specs.declared.Verdict.{Verdict}
-use Rattle.verdict.specs.Verdict.{verdict, nextOf, digitOf, byteOf, verdictOf}
+use Rattle.verdict.specs.Verdict.{verdict, nextOf, endedOf, digitOf, byteOf, verdictOf}
 
 -- ---- one more
 
@@ -22,24 +24,33 @@ no-more n h = rw (le-ltb n 18446744073709551615 h)
 
 -- ---- a byte
 
+pub from-48 : (b : ℕ) → (ltb b 48 || ltb 57 b) ≡ false → 48 ≤ b
+from-48 b h = go (ltb b 48) refl h
+  where
+    go : (t : Bool) → ltb b 48 ≡ t → (t || ltb 57 b) ≡ false → 48 ≤ b
+    go true e g = absurd (false≢true (sym g))
+    go false e g = ltb-false b 48 e
+
 module _ (v : Verdict) (b : ℕ) where
-  pub numbered : (v .number ≡ 0 → ⊥) → v ≡ digitOf v b
+  pub past : v .ended ≡ true → v ≡ digitOf v b
   unfolding digitOf
-  numbered h = rw (ne-eqb (v .number) 0 h)
+  past h = rw h
 
-  pub below : v .number ≡ 0 → b ≤ 48 → v ≡ digitOf v b
-  unfolding digitOf
-  below h g = rw (eq-eqb (v .number) 0 h, le-ltb 48 b g)
+  module _ (on : v .ended ≡ false) where
+    pub no-digit : (ltb b 48 || ltb 57 b) ≡ true → verdict (v .lines) (v .line) (v .number) (endedOf v) ≡ digitOf v b
+    unfolding digitOf
+    no-digit h = rw (on, h)
 
-  pub above : v .number ≡ 0 → 48 < b → 57 < b → v ≡ digitOf v b
-  unfolding digitOf
-  above h g k = rw (eq-eqb (v .number) 0 h, lt-ltb 48 b g, le-ltb b 58 (omega arith))
+    module _ (a-digit : (ltb b 48 || ltb 57 b) ≡ false) where
+      pub fourth : 99 < v .number → v ≡ digitOf v b
+      unfolding digitOf
+      fourth h = rw (on, a-digit, lt-ltb 99 (v .number) h)
 
-  pub found : v .number ≡ 0 → 48 < b → b ≤ 57 → verdict (v .lines) (v .line) (b - 48) ≡ digitOf v b
-  unfolding digitOf
-  found h g k = rw (eq-eqb (v .number) 0 h, lt-ltb 48 b g, lt-ltb b 58 (omega arith))
+      pub next-digit : v .number ≤ 99 → verdict (v .lines) (v .line) (v .number * 10 + (b - 48)) false ≡ digitOf v b
+      unfolding digitOf
+      next-digit h = rw (on, a-digit, le-ltb 99 (v .number) h)
 
-  pub ended : (n : ℕ) → n ≡ nextOf (v .lines) → b ≡ 10 → verdict n (v .line) (v .number) ≡ byteOf v b
+  pub ended : (n : ℕ) → n ≡ nextOf (v .lines) → b ≡ 10 → verdict n (v .line) (v .number) (endedOf v) ≡ byteOf v b
   unfolding byteOf
   ended n e h = rw (eq-eqb b 10 h, e)
 
@@ -47,7 +58,7 @@ module _ (v : Verdict) (b : ℕ) where
   unfolding byteOf
   within-refusal r e h g = rw (ne-eqb b 10 h, ne-eqb (v .line) 0 g) e
 
-  pub refused : (n : ℕ) → n ≡ nextOf (v .lines) → (b ≡ 10 → ⊥) → v .line ≡ 0 → b ≡ 114 → verdict (v .lines) n (v .number) ≡ byteOf v b
+  pub refused : (n : ℕ) → n ≡ nextOf (v .lines) → (b ≡ 10 → ⊥) → v .line ≡ 0 → b ≡ 114 → verdict (v .lines) n (v .number) (v .ended) ≡ byteOf v b
   unfolding byteOf
   refused n e h g k = rw (ne-eqb b 10 h, eq-eqb (v .line) 0 g, eq-eqb b 114 k, e)
 

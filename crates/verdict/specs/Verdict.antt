@@ -1,15 +1,15 @@
 -- What printed lines say of a run, byte by byte: how many have ended, and the first that is a refusal.
-use Prim.Native.Nat.{ℕ, _+_, _-_}
-use mathlib.Core.Bool.{Bool, not, cond}
+use Prim.Native.Nat.{ℕ, _+_, _*_, _-_}
+use mathlib.Core.Bool.{Bool, false, not, _||_, cond}
 use mathlib.Core.List.{List, [], _∷_}
 use lib.Dec.{eqb, ltb}
 use Rattle.verdict.specs.declared.Verdict.{Verdict}
 
-abbrev pub verdict : ℕ → ℕ → ℕ → Verdict
-verdict ended refused n = record { lines = ended; line = refused; number = n }
+abbrev pub verdict : ℕ → ℕ → ℕ → Bool → Verdict
+verdict lines refused n e = record { lines = lines; line = refused; number = n; ended = e }
 
 abbrev pub noVerdict : Verdict
-noVerdict = verdict 0 0 0
+noVerdict = verdict 0 0 0 false
 
 -- one more, up to the largest number
 unfoldable pub nextOf : ℕ → ℕ
@@ -21,19 +21,26 @@ newline = 10
 abbrev letter-r : ℕ
 letter-r = 114
 
--- a digit, of 1 to 9, is the number where none is known
-unfoldable pub digitOf : Verdict → ℕ → Verdict
-digitOf v b = cond (eqb (v .number) 0) (cond (ltb 48 b) (cond (ltb b 58) (verdict (v .lines) (v .line) (b - 48)) v) v) v
+-- what is no digit ends the number, where one is known
+abbrev pub endedOf : Verdict → Bool
+endedOf v = not (eqb (v .number) 0)
 
--- a newline ends a line; the first `r` makes its line the refused one, and the first digit after it is its number
+-- the digits that follow one another, `0` to `9`, are the number, up to three of them
+unfoldable pub digitOf : Verdict → ℕ → Verdict
+digitOf v b =
+    cond (v .ended) v
+    (cond (ltb b 48 || ltb 57 b) (verdict (v .lines) (v .line) (v .number) (endedOf v))
+    (cond (ltb 99 (v .number)) v (verdict (v .lines) (v .line) (v .number * 10 + (b - 48)) false)))
+
+-- a newline ends a line; the first `r` makes its line the refused one, and the first digits after it are its number
 unfoldable pub byteOf : Verdict → ℕ → Verdict
 byteOf v b =
-    cond (eqb b newline) (verdict (nextOf (v .lines)) (v .line) (v .number))
-    (cond (eqb (v .line) 0) (cond (eqb b letter-r) (verdict (v .lines) (nextOf (v .lines)) (v .number)) v) (digitOf v b))
+    cond (eqb b newline) (verdict (nextOf (v .lines)) (v .line) (v .number) (endedOf v))
+    (cond (eqb (v .line) 0) (cond (eqb b letter-r) (verdict (v .lines) (nextOf (v .lines)) (v .number) (v .ended)) v) (digitOf v b))
 
 unfoldable pub verdictOf : Verdict → List ℕ → Verdict
 verdictOf v [] = v
 verdictOf v (b ∷ bs) = verdictOf (byteOf v b) bs
 
-abbrev pub refusedOf : Verdict → Bool
-refusedOf v = not (eqb (v .line) 0)
+abbrev pub isRefused : Verdict → Bool
+isRefused v = not (eqb (v .line) 0)

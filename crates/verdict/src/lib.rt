@@ -1,13 +1,14 @@
 // What the lines of a program say of its run: how many there are, and the first that is a refusal. A program has no exit status,
 // so it names that refusal on standard error, and ./gateweave makes the status of it.
 ghost use mathlib.Core.Path.{_≡_};
-ghost use Rattle.verdict.specs.Verdict.{noVerdict, nextOf, digitOf, byteOf, verdictOf, refusedOf};
+ghost use Rattle.verdict.specs.Verdict.{noVerdict, nextOf, digitOf, byteOf, verdictOf, isRefused};
 
-// The lines that have ended; the first that is a refusal, and its number, both 0 where there is none.
+// The lines that have ended; the first that is a refusal, and its number, both 0 where there is none; whether the number has ended.
 pub struct Verdict {
     pub lines: u64,
     pub line: u64,
-    pub number: u8,
+    pub number: u16,
+    pub ended: bool,
 }
 
 // One more, up to the largest number.
@@ -25,26 +26,33 @@ impl Verdict {
             lines: 0,
             line: 0,
             number: 0,
+            ended: false,
         }
     }
 
-    // The digit that is a refusal's number, once its line was found.
+    // A byte once the refused line was found: the next digit of its number, of which three are read, or what ends it.
     fn digit(self, byte: u8) -> Verdict
         ensures { λ r. ⌜ r ≡ digitOf self byte ⌝ }
     {
-        if self.number != 0 {
+        if self.ended {
             return self;
         }
-        if byte <= b'0' {
-            return self;
+        if (byte < b'0') | (byte > b'9') {
+            return Verdict {
+                lines: self.lines,
+                line: self.line,
+                number: self.number,
+                ended: self.number != 0,
+            };
         }
-        if byte > b'9' {
+        if self.number > 99 {
             return self;
         }
         Verdict {
             lines: self.lines,
             line: self.line,
-            number: byte - b'0',
+            number: self.number * 10 + (byte - b'0') as u16,
+            ended: false,
         }
     }
 
@@ -57,6 +65,7 @@ impl Verdict {
                 lines: next(self.lines),
                 line: self.line,
                 number: self.number,
+                ended: self.number != 0,
             };
         }
         if self.line != 0 {
@@ -67,6 +76,7 @@ impl Verdict {
                 lines: self.lines,
                 line: next(self.lines),
                 number: self.number,
+                ended: self.ended,
             };
         }
         self
@@ -100,7 +110,7 @@ impl Verdict {
 
     // Names the refusal, if there is one; whether there is one.
     pub fn tell(self, program: &[u8], unit: &[u8]) -> bool
-        ensures { λ r. ⌜ r ≡ refusedOf self ⌝ }
+        ensures { λ r. ⌜ r ≡ isRefused self ⌝ }
     {
         let refused = self.line != 0;
         if refused {

@@ -1,5 +1,4 @@
--- What patterns and floats are to each other, what the bytes of a number make, and a list by its elements.
--- Assumes nothing.
+-- What patterns and floats are to each other, what the bytes of a number make, and a list by its elements. Assumes nothing.
 use Prim.Native.Nat.{ℕ, zero, suc, _+_, _*_, _/_, _%_, _<_}
 use native.Mathlib.Omega.{arith}
 use native.Mathlib.Decide.{decLt}
@@ -9,8 +8,8 @@ use mathlib.Core.List.{List, [], _∷_}
 use lib.Dec.{T, ltb, eqb}
 use lib.ListN.{length, getD, drop, drop-of-length-le}
 use lib.Seq.{drop-cons}
-use lib.Ieee.{Float, nan, inf, fin, binary32, isNan, nanBits, odd, ofFields, ofBits, toBits, fits, ne, div}
-use lib.Ieee.Bits.{nanBits-is, ofBits-toBits, toBits-lt}
+use lib.Ieee.{Float, nan, inf, fin, binary32, isNan, nanBits, odd, ofFields, ofBits, toBits, ne, div}
+use lib.Ieee.Bits.{nanBits-is}
 use lib.Ieee.Compare.{differs-from-itself}
 use lib.Ieee.Scale.{finite}
 use borrow.Author.Tests.{lt-ltb, le-ltb, eq-eqb, ne-eqb}
@@ -24,19 +23,13 @@ nan-above n = go (decLt 2139095040 (n % 2147483648)) (decLt (n % 2147483648) 213
     go : Dec (2139095040 < n % 2147483648) → Dec (n % 2147483648 < 2139095040)
         → ltb 2139095040 (n % 2147483648) ≡ (eqb (n % 2147483648 / 8388608) 255 && not (eqb (n % 8388608) 0))
     go (yes l) d =
-        simp (
-          lt-ltb 2139095040 (n % 2147483648) l,
-          eq-eqb (n % 2147483648 / 8388608) 255 (omega arith),
-          ne-eqb (n % 8388608) 0 (λ e. omega arith),
-        )
+        simp (lt-ltb 2139095040 (n % 2147483648) l, eq-eqb (n % 2147483648 / 8388608) 255 (omega arith))
+        (simp (ne-eqb (n % 8388608) 0 (λ e. omega arith)))
     go (no g) (yes h) =
         simp (le-ltb 2139095040 (n % 2147483648) (omega arith), ne-eqb (n % 2147483648 / 8388608) 255 (λ e. omega arith))
     go (no g) (no h) =
-        simp (
-          le-ltb 2139095040 (n % 2147483648) (omega arith),
-          eq-eqb (n % 2147483648 / 8388608) 255 (omega arith),
-          eq-eqb (n % 8388608) 0 (omega arith),
-        )
+        simp (le-ltb 2139095040 (n % 2147483648) (omega arith), eq-eqb (n % 2147483648 / 8388608) 255 (omega arith))
+        (simp (eq-eqb (n % 8388608) 0 (omega arith)))
 
 finite-odd : (d : ℕ) (s : Bool) (q k l : ℕ) → finite (odd d s q k l) ≡ true
 unfolding odd
@@ -68,13 +61,6 @@ unfolding isNan
 finite-no-nan nan h = h
 finite-no-nan (inf s) h = tt
 finite-no-nan (fin s m e) h = tt
-
--- a finite f32 has a finite pattern, of 32 bits
-pub finite-toBits : (x : Float) → T (fits binary32 x) → finiteBits (toBits binary32 x) ≡ finite x
-finite-toBits x h = sym (finite-ofBits (toBits binary32 x)) ∙ ap finite (ofBits-toBits binary32 x h)
-
-pub toBits-32 : (x : Float) → T (fits binary32 x) → toBits binary32 x < 4294967296
-toBits-32 x h = toBits-lt binary32 x h
 
 -- the four bytes of a pattern make it again
 pub digits : (n : ℕ) → n % 256 + 256 * (n / 256 % 256) + 65536 * (n / 65536 % 256) + 16777216 * (n / 16777216) ≡ n

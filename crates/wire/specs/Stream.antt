@@ -8,14 +8,14 @@ abbrev pub joined : List (List ℕ) → List ℕ
 joined [] = []
 joined (x ∷ parts) = x ++ joined parts
 
-module _ {S O : Type 0} (step : S → ℕ → S) (out : S → ℕ → List O) where
+module _ {S O : Type 0} (next : S → ℕ → S) (out : S → ℕ → List O) where
   abbrev pub after : S → List ℕ → S
   after s [] = s
-  after s (b ∷ bs) = after (step s b) bs
+  after s (b ∷ bs) = after (next s b) bs
 
   abbrev pub gives : S → List ℕ → List O
   gives s [] = []
-  gives s (b ∷ bs) = out s b ++ gives (step s b) bs
+  gives s (b ∷ bs) = out s b ++ gives (next s b) bs
 
   -- the parts one after another, and what the end of the input gives
   abbrev pub givesParts : (S → List O) → S → List (List ℕ) → List O

@@ -9,36 +9,6 @@ use Rattle.lines.proofs.Answering.{malformed, two-names}
 use Rattle.lines.proofs.answer.Statement.{statement}
 use Rattle.lines.proofs.answer.Tie as tie
 
-array-read-if1 : tie.Need-array-read-if1
-array-read-if1 c = search needs
-
-returns : tie.Need-returns
-returns c = malformed _ _ (c .if1 .taken)
-
-array-share-prefix-text : tie.Need-array-share-prefix-text
-array-share-prefix-text c = search needs
-
-slice-aggregate-read-name : tie.Need-slice-aggregate-read-name
-slice-aggregate-read-name c = sym (length-take-le 6 (c .before .before .args .t2) (omega arith))
-
-read-name-requires : tie.Need-read-name-requires
-read-name-requires c κs = search needs
-
-sub-read-name : tie.Need-sub-read-name
-sub-read-name c = search needs
-
-part-read-name-start : tie.Need-part-read-name-start
-part-read-name-start c = search needs
-
-part-read-name-end : tie.Need-part-read-name-end
-part-read-name-end c = search needs
-
-read-name-requires-2 : tie.Need-read-name-requires-2
-read-name-requires-2 c κs = search needs
-
-both-requires : tie.Need-both-requires
-both-requires c κs = search needs
-
 returns-2 : tie.Need-returns-2
 returns-2 c =
     let t = c .before .before .before .before .before .before in
@@ -49,15 +19,6 @@ returns-2 c =
 pub answer-spec : {M : Type 1} → statement M
 answer-spec =
     tie.close
-    (tie.spec
-    array-read-if1
-    returns
-    array-share-prefix-text
-    slice-aggregate-read-name
-    read-name-requires
-    sub-read-name
-    part-read-name-start
-    part-read-name-end
-    read-name-requires-2
-    both-requires
-    returns-2)
+    (tie.spec (λ c. search needs) (λ c. malformed _ _ (c .if1 .taken)) (λ c. search needs)
+    (λ c. sym (length-take-le 6 (c .before .before .args .t2) (omega arith))) (λ c κs. search needs) (λ c. search needs) (λ c. search needs)
+    (λ c. search needs) (λ c κs. search needs) (λ c κs. search needs) returns-2)

@@ -15,31 +15,11 @@ Inv-loop part out₀ fed₀ i₀ out fed i = Feeding part out₀ (fed₀ .line) 
 abbrev μ-loop : tie.MeasureT-loop
 μ-loop part out₀ fed₀ i₀ out fed i = length part - i
 
-returns : tie.Need-returns Inv-loop μ-loop
-returns c = let a = c .before .before .before .args in refused _ _ _ _ _ 0 (no-room (a .part .now) (a .out .now) (c .if1 .taken))
-
-loop-holds : tie.Need-loop-holds Inv-loop μ-loop
-loop-holds c = feed-none _ _ _
-
-shared-slice-read-take-byte : tie.Need-shared-slice-read-take-byte Inv-loop μ-loop
-shared-slice-read-take-byte c = search needs
-
-take-byte-requires : tie.Need-take-byte-requires Inv-loop μ-loop
-take-byte-requires c κs = let f = c .before .before .before .loop .inv in omega (arith, f .room, f .long, c .before .before .before .before .if1 .left)
-
-add-i : tie.Need-add-i Inv-loop μ-loop
-add-i c = search needs
-
-loop-less : tie.Need-loop-less Inv-loop μ-loop
-loop-less c = search needs
-
 loop-again : tie.Need-loop-again Inv-loop μ-loop
 loop-again c =
-    let l = c .before .before .before .before .before .before in
-    feed-next _ _ _ _ _ _ (l .loop .inv) _ _ (c .before .before .before .before .before .loop-test .taken) (c .before .before .take-byte .kept .1 .1 .0) (c .before .before .take-byte .ensures)
-
-same-length : tie.Need-same-length Inv-loop μ-loop
-same-length c = c .before .loop .inv .long
+    let t = c .before .before in
+    let l = t .before .before .before in
+    feed-next _ _ _ _ _ _ (l .before .loop .inv) _ _ (l .loop-test .taken) (t .take-byte .kept .1 .1 .0) (t .take-byte .ensures)
 
 returns-2 : tie.Need-returns-2 Inv-loop μ-loop
 returns-2 c =
@@ -49,15 +29,7 @@ returns-2 c =
 pub feed-spec : {M : Type 1} → statement M
 feed-spec =
     tie.close
-    (tie.spec
-    Inv-loop
-    μ-loop
-    returns
-    loop-holds
-    shared-slice-read-take-byte
-    take-byte-requires
-    add-i
-    loop-less
-    loop-again
-    same-length
-    returns-2)
+    (tie.spec Inv-loop μ-loop (λ c. let a = c .before .before .before .args in refused _ _ _ _ _ 0 (no-room (a .part .now) (a .out .now) (c .if1 .taken)))
+    (λ c. feed-none _ _ _) (λ c. search needs)
+    (λ c κs. let f = c .before .before .before .loop .inv in omega (arith, f .room, f .long, c .before .before .before .before .if1 .left))
+    (λ c. search needs) (λ c. search needs) loop-again (λ c. c .before .loop .inv .long) returns-2)

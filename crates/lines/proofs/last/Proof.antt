@@ -8,26 +8,11 @@ use borrow.Author.Needs.{needs}
 use Rattle.lines.proofs.last.Statement.{statement}
 use Rattle.lines.proofs.last.Tie as tie
 
-returns : tie.Need-returns
-returns c = refused _ _ _ _ _ 0 (no-room-for-last (c .before .before .args .out .now) (c .if1 .taken))
-
-fresh-requires : tie.Need-fresh-requires
-fresh-requires c κs = search needs
-
 returns-2 : tie.Need-returns-2
 returns-2 c =
     let t = c .before .before in
     fed _ _ _ _ _ (room-for-last (t .before .before .args .out .now) (t .if1 .left)) refl (c .fresh .ensures)
     (puts-as (last-empty _ _ (c .before .if2 .taken)) (puts-nothing _))
-
-put-answer-requires : tie.Need-put-answer-requires
-put-answer-requires c κs = search needs
-
-fresh-requires-2 : tie.Need-fresh-requires-2
-fresh-requires-2 c κs = search needs
-
-same-length : tie.Need-same-length
-same-length c = search needs
 
 returns-3 : tie.Need-returns-3
 returns-3 c =
@@ -38,11 +23,5 @@ returns-3 c =
 pub last-spec : {M : Type 1} → statement M
 last-spec =
     tie.close
-    (tie.spec
-    returns
-    fresh-requires
-    returns-2
-    put-answer-requires
-    fresh-requires-2
-    same-length
-    returns-3)
+    (tie.spec (λ c. refused _ _ _ _ _ 0 (no-room-for-last (c .before .before .args .out .now) (c .if1 .taken))) (λ c κs. search needs) returns-2
+    (λ c κs. search needs) (λ c κs. search needs) (λ c. search needs) returns-3)

@@ -8,28 +8,10 @@ use borrow.Author.Needs.{needs}
 use Rattle.lines.proofs.take_byte.Statement.{statement}
 use Rattle.lines.proofs.take_byte.Tie as tie
 
-sub-print : tie.Need-sub-print
-sub-print c = search needs
-
-part-print-start : tie.Need-part-print-start
-part-print-start c = search needs
-
-part-print-end : tie.Need-part-print-end
-part-print-end c = search needs
-
-print-requires : tie.Need-print-requires
-print-requires c κs = search needs
-
 add-n : tie.Need-add-n
 add-n c =
     let a = c .before .before .before .before .before .before .args in
     omega (arith, c .before .before .print .ensures .count, print-short (a .fed .line) (a .byte))
-
-kept-requires : tie.Need-kept-requires
-kept-requires c κs = search needs
-
-same-length : tie.Need-same-length
-same-length c = search needs
 
 returns : tie.Need-returns
 returns c =
@@ -45,12 +27,5 @@ returns c =
 pub take-byte-spec : {M : Type 1} → statement M
 take-byte-spec =
     tie.close
-    (tie.spec
-    sub-print
-    part-print-start
-    part-print-end
-    print-requires
-    add-n
-    kept-requires
-    same-length
-    returns)
+    (tie.spec (λ c. search needs) (λ c. search needs) (λ c. search needs) (λ c κs. search needs) add-n (λ c κs. search needs)
+    (λ c. search needs) returns)

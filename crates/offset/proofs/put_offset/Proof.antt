@@ -7,18 +7,6 @@ use borrow.Author.Needs.{needs}
 use Rattle.offset.proofs.put_offset.Statement.{statement}
 use Rattle.offset.proofs.put_offset.Tie as tie
 
-slice-write-bytes : tie.Need-slice-write-bytes
-slice-write-bytes c = search needs
-
-slice-write-bytes-2 : tie.Need-slice-write-bytes-2
-slice-write-bytes-2 c = search needs
-
-slice-write-bytes-3 : tie.Need-slice-write-bytes-3
-slice-write-bytes-3 c = search needs
-
-slice-write-bytes-4 : tie.Need-slice-write-bytes-4
-slice-write-bytes-4 c = omega (arith, simp length-set at (c .before .before .put-u16 .kept .0))
-
 same-length : tie.Need-same-length
 same-length c =
     let z = c .before .before in
@@ -35,22 +23,12 @@ returns c =
     let v = x .before .before .before .before .before in
     let s = v .before .before .before .before in
     puts (s .args .offset) (s .args .bytes .now) (s .pre) (v .put-u16 .ensures)
-    (x .before .bits-of .ensures) (x .put-bits .ensures) (y .before .bits-of2 .ensures) (y .put-bits2 .ensures) (z .before .bits-of3 .ensures) (z .put-bits3 .ensures)
+    (x .before .bits-of .ensures) (x .put-bits .ensures) (y .before .bits-of2 .ensures) (y .put-bits2 .ensures)
+    (z .before .bits-of3 .ensures) (z .put-bits3 .ensures)
 
 pub put-offset-spec : {M : Type 1} → statement M
 put-offset-spec =
     tie.close
-    (tie.spec
-    slice-write-bytes
-    slice-write-bytes-2
-    slice-write-bytes-3
-    (λ c κs. tt)
-    slice-write-bytes-4
-    (λ c κs. tt)
-    (λ c κs. tt)
-    (λ c κs. tt)
-    (λ c κs. tt)
-    (λ c κs. tt)
-    (λ c κs. tt)
-    same-length
-    returns)
+    (tie.spec (λ c. search needs) (λ c. search needs) (λ c. search needs) (λ c κs. tt)
+    (λ c. omega (arith, simp length-set at (c .before .before .put-u16 .kept .0))) (λ c κs. tt) (λ c κs. tt) (λ c κs. tt) (λ c κs. tt) (λ c κs. tt)
+    (λ c κs. tt) same-length returns)

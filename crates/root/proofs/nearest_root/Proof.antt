@@ -60,23 +60,11 @@ above n r e h = ltb-false (r * r) (n + r) (second (leb n (r * r + r)) (ltb (r * 
 near : (c : tie.At-loop Inv-loop μ-loop) → Near (c .before .before .args .n) (nearestRootOf (c .before .before .args .n))
 near c = nearest-near (c .before .before .args .n) (c .before .before .pre .0) (c .before .before .pre .1)
 
-candidate-requires : tie.Need-candidate-requires Inv-loop μ-loop
-candidate-requires c κs = search needs
-
-loop-holds : tie.Need-loop-holds Inv-loop μ-loop
-loop-holds c = search needs
-
 mul-square : tie.Need-mul-square Inv-loop μ-loop
 mul-square c = omega (arith, square-fits (c .loop .r) (omega arith))
 
 add-if1 : tie.Need-add-if1 Inv-loop μ-loop
 add-if1 c = omega (arith, square-fits (c .loop .r) (omega arith))
-
-add-if1-2 : tie.Need-add-if1-2 Inv-loop μ-loop
-add-if1-2 c = search needs
-
-add-r : tie.Need-add-r Inv-loop μ-loop
-add-r c = search needs
 
 -- the candidate is below the root, and stays at most the root
 rises : (c : tie.Then2 Inv-loop μ-loop) → c .before .before .loop .r < nearestRootOf (c .before .before .before .before .args .n)
@@ -97,27 +85,11 @@ sub-r c = omega (arith, falls c)
 loop-less-2 : tie.Need-loop-less-2 Inv-loop μ-loop
 loop-less-2 c = omega (arith, falls c)
 
-loop-again-2 : tie.Need-loop-again-2 Inv-loop μ-loop
-loop-again-2 c = search needs
-
 returns : tie.Need-returns Inv-loop μ-loop
 returns c = near-unique _ _ _ (is-near _ _ (c .if1 .taken)) (near (c .before))
 
 pub nearest-root-spec : {M : Type 1} → statement M
 nearest-root-spec =
     tie.close
-    (tie.spec
-    Inv-loop
-    μ-loop
-    candidate-requires
-    loop-holds
-    mul-square
-    add-if1
-    add-if1-2
-    add-r
-    loop-less
-    loop-again
-    sub-r
-    loop-less-2
-    loop-again-2
-    returns)
+    (tie.spec Inv-loop μ-loop (λ c κs. search needs) (λ c. search needs) mul-square add-if1 (λ c. search needs) (λ c. search needs)
+    loop-less loop-again sub-r loop-less-2 (λ c. search needs) returns)

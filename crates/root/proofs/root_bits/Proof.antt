@@ -7,12 +7,6 @@ use Rattle.root.proofs.Scaled.{exponent-range, squared-range, digits-ra
 use Rattle.root.proofs.root_bits.Statement.{statement}
 use Rattle.root.proofs.root_bits.Tie as tie
 
-half-exponent-requires : tie.Need-half-exponent-requires
-half-exponent-requires c κs = search needs
-
-squared-requires : tie.Need-squared-requires
-squared-requires c κs = search needs
-
 nearest-root-requires : tie.Need-nearest-root-requires
 nearest-root-requires c κs =
     let s = squared-range _ (c .before .before .pre) in
@@ -21,17 +15,23 @@ nearest-root-requires c κs =
 q-is : (c : tie.After-nearest-root) → c .nearest-root .result ≡ nearestRootOf (squaredOf (c .before .before .before .args .b))
 q-is c = c .nearest-root .ensures ∙ ap nearestRootOf (c .before .squared .ensures)
 
-cast-result : tie.Need-cast-result
-cast-result c = omega (arith, q-is c, digits-range _ (c .before .before .before .pre) .1)
-
 add-result : tie.Need-add-result
 add-result c =
-    omega
-    (arith, q-is c, digits-range _ (c .before .before .before .pre) .1, c .before .before .half-exponent .ensures, exponent-range _ (c .before .before .before .pre) .1)
+    omega (
+      arith,
+      q-is c,
+      digits-range _ (c .before .before .before .pre) .1,
+      c .before .before .half-exponent .ensures,
+      exponent-range _
+          (c .before .before .before .pre) .1,
+    )
 
 returns : tie.Need-returns
 unfolding rootBitsOf
 returns c = cc (q-is c, c .before .before .half-exponent .ensures)
 
 pub root-bits-spec : {M : Type 1} → statement M
-root-bits-spec = tie.close (tie.spec half-exponent-requires squared-requires nearest-root-requires cast-result add-result returns)
+root-bits-spec =
+    tie.close
+    (tie.spec (λ c κs. search needs) (λ c κs. search needs) nearest-root-requires
+    (λ c. omega (arith, q-is c, digits-range _ (c .before .before .before .pre) .1)) add-result returns)

@@ -1,4 +1,5 @@
--- `root::sqrtf` meets its contract: a float above zero is the infinity or has the bits of a finite number, and the others are the zeros, the negatives and NaN. Assumes nothing.
+-- `root::sqrtf` meets its contract: a float above zero is the infinity or has the bits of a finite number, and the others are the zeros, the
+-- negatives and NaN. Assumes nothing.
 use mathlib.Core.Path.{_≡_, refl, sym, ap, _∙_, subst}
 use mathlib.Core.Bool.{Bool, true, false, not, _&&_, true≢false, false≢true}
 use Prim.Native.Nat.{ℕ, zero, suc, _*_, _≤_, _<_}
@@ -92,29 +93,25 @@ the-rest (fin false (suc m) e) h k = absurd (some-below m (up e) (down e) (up-po
 both : (x : Float) {r : Float} → fits binary32 x ≡ true → r ≡ sqrtOf x → (r ≡ sqrtOf x) × Root x r
 both x f e = (e, subst (Root x) (sym e) (nearest x (rw f tt)))
 
-float-to-bits-b : tie.Need-float-to-bits-b
-float-to-bits-b c = no-nan (above _ (c .if1 .taken))
-
 at : (c : tie.Then2) → Finite (toBits binary32 (c .before .before .args .x))
 at c = in-range (above _ (c .before .if1 .taken)) (c .before .before .good .0 .1) (omega (arith, c .if2 .taken))
 
-root-bits-requires : tie.Need-root-bits-requires
-root-bits-requires c κs = at c
-
-float-from-bits-result : tie.Need-float-from-bits-result
-float-from-bits-result c = no-nan-bits _ (omega (arith, c .root-bits .ensures, root-bits-range _ (at (c .before)) .1))
-
 returns : tie.Need-returns
-returns c = both (c .before .before .before .args .x) (c .before .before .before .good .0 .1) (ap (ofBits binary32) (c .root-bits .ensures) ∙ the-root (above _ (c .before .before .if1 .taken)) (omega (arith, c .before .if2 .taken)))
+returns c =
+    both (c .before .before .before .args .x) (c .before .before .before .good .0 .1)
+    (ap (ofBits binary32) (c .root-bits .ensures) ∙ the-root (above _ (c .before .before .if1 .taken)) (omega (arith, c .before .if2 .taken)))
 
 returns-2 : tie.Need-returns-2
-returns-2 c = both (c .before .before .args .x) (c .before .before .good .0 .1) (the-infinity (above _ (c .before .if1 .taken)) (c .before .before .good .0 .1) (omega (arith, c .if2 .left)))
-
-returns-3 : tie.Need-returns-3
-returns-3 c = both (c .before .before .args .x) (c .before .before .good .0 .1) (the-zero (c .before .before .args .x) (c .if3 .taken))
+returns-2 c =
+    both (c .before .before .args .x) (c .before .before .good .0 .1)
+    (the-infinity (above _ (c .before .if1 .taken)) (c .before .before .good .0 .1) (omega (arith, c .if2 .left)))
 
 returns-4 : tie.Need-returns-4
 returns-4 c = both (c .before .before .args .x) (c .before .before .good .0 .1) (the-rest (c .before .before .args .x) (c .before .if1 .left) (c .if3 .left))
 
 pub sqrtf-spec : {M : Type 1} → statement M
-sqrtf-spec = tie.close (tie.spec float-to-bits-b root-bits-requires float-from-bits-result returns returns-2 returns-3 returns-4)
+sqrtf-spec =
+    tie.close
+    (tie.spec (λ c. no-nan (above _ (c .if1 .taken))) (λ c κs. at c)
+    (λ c. no-nan-bits _ (omega (arith, c .root-bits .ensures, root-bits-range _ (at (c .before)) .1))) returns returns-2
+    (λ c. both (c .before .before .args .x) (c .before .before .good .0 .1) (the-zero (c .before .before .args .x) (c .if3 .taken))) returns-4)

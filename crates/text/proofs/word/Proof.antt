@@ -5,30 +5,6 @@ use Rattle.text.specs.Text.{wordOf}
 use Rattle.text.proofs.word.Statement.{statement}
 use Rattle.text.proofs.word.Tie as tie
 
-digit-requires : tie.Need-digit-requires
-digit-requires c κs = search needs
-
-digit-requires-2 : tie.Need-digit-requires-2
-digit-requires-2 c κs = search needs
-
-digit-requires-3 : tie.Need-digit-requires-3
-digit-requires-3 c κs = search needs
-
-digit-requires-4 : tie.Need-digit-requires-4
-digit-requires-4 c κs = search needs
-
-digit-requires-5 : tie.Need-digit-requires-5
-digit-requires-5 c κs = search needs
-
-digit-requires-6 : tie.Need-digit-requires-6
-digit-requires-6 c κs = search needs
-
-digit-requires-7 : tie.Need-digit-requires-7
-digit-requires-7 c κs = search needs
-
-digit-requires-8 : tie.Need-digit-requires-8
-digit-requires-8 c κs = search needs
-
 returns : tie.Need-returns
 unfolding wordOf
 returns c =
@@ -45,13 +21,5 @@ returns c =
 pub word-spec : {M : Type 1} → statement M
 word-spec =
     tie.close
-    (tie.spec
-    digit-requires
-    digit-requires-2
-    digit-requires-3
-    digit-requires-4
-    digit-requires-5
-    digit-requires-6
-    digit-requires-7
-    digit-requires-8
-    returns)
+    (tie.spec (λ c κs. search needs) (λ c κs. search needs) (λ c κs. search needs) (λ c κs. search needs) (λ c κs. search needs)
+    (λ c κs. search needs) (λ c κs. search needs) (λ c κs. search needs) returns)

@@ -3,8 +3,5 @@ use Rattle.wire.proofs.Laws.{nan-above}
 use Rattle.wire.proofs.is_nan_bits.Statement.{statement}
 use Rattle.wire.proofs.is_nan_bits.Tie as tie
 
-returns : tie.Need-returns
-returns c = nan-above (c .args .n)
-
 pub is-nan-bits-spec : {M : Type 1} → statement M
-is-nan-bits-spec = tie.close (tie.spec returns)
+is-nan-bits-spec = tie.close (tie.spec (λ c. nan-above (c .args .n)))

@@ -10,7 +10,8 @@ use Rattle.ahrs.proofs.Ahrs.fresh.Tie as tie
 returns : tie.Need-returns
 unfolding freshOf
 returns c =
-    let timeout : toZ w32 (ofZ w32 (c .before .before .args .config .«rejection_timeout»)) ≡ c .before .before .args .config .«rejection_timeout» = search needs in
+    let t = c .before .before .args .config .«rejection_timeout» in
+    let timeout : toZ w32 (ofZ w32 t) ≡ t = search needs in
     simp (c .reset .ensures, timeout)
 
 pub fresh-spec : {M : Type 1} → statement M

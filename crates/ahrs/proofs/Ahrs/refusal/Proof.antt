@@ -1,19 +1,13 @@
--- `ahrs::Ahrs::refusal` meets its contract, by its one test. Assumes nothing.
-use mathlib.Core.Path.{sym, ap₂, _∙_}
-use mathlib.Core.Bool.{_&&_}
-use Rattle.answer.proofs.Tests.{three}
+-- `ahrs::Ahrs::refusal` meets its contract: the first check that fails. Assumes nothing.
+use Rattle.answer.specs.Refusals.{refusalOf}
+use Rattle.answer.proofs.Tests.{one}
 use Rattle.ahrs.proofs.Ahrs.refusal.Statement.{statement}
 use Rattle.ahrs.proofs.Ahrs.refusal.Tie as tie
 
-returns : tie.Need-returns
-returns c =
-    let n = c .before .before in
-    rw (sym (ap₂ _&&_ (c .before .is-finite4 .ensures) (three (n .before .before .is-finite .ensures) (n .before .is-finite2 .ensures) (n .is-finite3 .ensures))) ∙ c .if1 .taken)
-
-returns-2 : tie.Need-returns-2
-returns-2 c =
-    let n = c .before .before in
-    rw (sym (ap₂ _&&_ (c .before .is-finite4 .ensures) (three (n .before .before .is-finite .ensures) (n .before .is-finite2 .ensures) (n .is-finite3 .ensures))) ∙ c .if1 .left)
-
 pub refusal-spec : {M : Type 1} → statement M
-refusal-spec = tie.close (tie.spec (λ c κs. tt) (λ c κs. tt) (λ c κs. tt) (λ c κs. tt) returns returns-2)
+unfolding refusalOf
+refusal-spec =
+    tie.close
+    (tie.spec (λ c κs. tt) (λ c. rw (one (c .before .is-known .ensures) (c .if1 .taken))) (λ c κs. tt)
+    (λ c. let known = c .before .before in rw (one (known .before .is-known .ensures) (known .if1 .left), one (c .before .is-finite .ensures) (c .if2 .taken)))
+    (λ c. let known = c .before .before in rw (one (known .before .is-known .ensures) (known .if1 .left), one (c .before .is-finite .ensures) (c .if2 .left))))

@@ -1,25 +1,13 @@
--- `ahrs::Ahrs::set_quaternion` meets its contract: each return by the checks before it. Assumes nothing.
-use mathlib.Core.Path.{refl, _∙_}
-use Rattle.answer.proofs.Answering.{passes, all-pass}
-use Rattle.answer.proofs.Tests.{one, two}
-use Rattle.ahrs.proofs.Changing.{changed-4, changed-5, becomes}
+-- `ahrs::Ahrs::set_quaternion` meets its contract: by the number of its checks. Assumes nothing.
+use mathlib.Core.Path.{refl}
 use Rattle.ahrs.specs.Filter.{withQuaternion}
+use Rattle.answer.proofs.Answering.{stays, becomes}
 use Rattle.ahrs.proofs.Ahrs.set_quaternion.Statement.{statement}
 use Rattle.ahrs.proofs.Ahrs.set_quaternion.Tie as tie
 
-returns : tie.Need-returns
-returns c = changed-4 _ _ _ (one (c .before .is-known .ensures) (c .if1 .taken))
-
-returns-2 : tie.Need-returns-2
-returns-2 c =
-    let known = c .before .before .before in
-    changed-5 _ _ _ (one (known .before .is-known .ensures) (known .if1 .left)) (two (c .before .before .is-finite .ensures) (c .before .is-finite2 .ensures) (c .if2 .taken))
-
-returns-3 : tie.Need-returns-3
-unfolding withQuaternion
-returns-3 c =
-    let known = c .before .before .before in
-    becomes _ _ _ _ refl (passes 4 _ (one (known .before .is-known .ensures) (known .if1 .left)) ∙ passes 5 _ (two (c .before .before .is-finite .ensures) (c .before .is-finite2 .ensures) (c .if2 .left)) ∙ all-pass)
-
 pub set-quaternion-spec : {M : Type 1} → statement M
-set-quaternion-spec = tie.close (tie.spec (λ c κs. tt) returns (λ c κs. tt) (λ c κs. tt) returns-2 returns-3)
+unfolding withQuaternion
+set-quaternion-spec =
+    tie.close
+    (tie.spec (λ c κs. tt) (λ c. stays _ _ _ (c .before .quaternion-refusal .ensures) (c .if1 .taken))
+    (λ c. becomes _ _ _ (c .before .quaternion-refusal .ensures) (c .if1 .left) refl))

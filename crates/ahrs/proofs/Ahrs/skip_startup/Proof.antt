@@ -1,25 +1,13 @@
--- `ahrs::Ahrs::skip_startup` meets its contract: each return by the checks before it. Assumes nothing.
-use mathlib.Core.Path.{refl, _∙_}
-use Rattle.answer.proofs.Answering.{passes, all-pass}
-use Rattle.answer.proofs.Tests.{one}
-use Rattle.ahrs.proofs.Changing.{changed-4, changed-5, becomes}
+-- `ahrs::Ahrs::skip_startup` meets its contract: by the number of the state's checks. Assumes nothing.
+use mathlib.Core.Path.{refl}
 use Rattle.ahrs.specs.Filter.{skippedStartup}
+use Rattle.answer.proofs.Answering.{stays, becomes}
 use Rattle.ahrs.proofs.Ahrs.skip_startup.Statement.{statement}
 use Rattle.ahrs.proofs.Ahrs.skip_startup.Tie as tie
 
-returns : tie.Need-returns
-returns c = changed-4 _ _ _ (one (c .before .is-known .ensures) (c .if1 .taken))
-
-returns-2 : tie.Need-returns-2
-returns-2 c =
-    let known = c .before .before in
-    changed-5 _ _ _ (one (known .before .is-known .ensures) (known .if1 .left)) (one (c .before .is-finite .ensures) (c .if2 .taken))
-
-returns-3 : tie.Need-returns-3
-unfolding skippedStartup
-returns-3 c =
-    let known = c .before .before in
-    becomes _ _ _ _ refl (passes 4 _ (one (known .before .is-known .ensures) (known .if1 .left)) ∙ passes 5 _ (one (c .before .is-finite .ensures) (c .if2 .left)) ∙ all-pass)
-
 pub skip-startup-spec : {M : Type 1} → statement M
-skip-startup-spec = tie.close (tie.spec (λ c κs. tt) returns (λ c κs. tt) returns-2 returns-3)
+unfolding skippedStartup
+skip-startup-spec =
+    tie.close
+    (tie.spec (λ c κs. tt) (λ c. stays _ _ _ (c .before .refusal .ensures) (c .if1 .taken))
+    (λ c. becomes _ _ _ (c .before .refusal .ensures) (c .if1 .left) refl))

@@ -4,13 +4,6 @@ use Rattle.ahrs.specs.Read.{withoutGravity}
 use Rattle.ahrs.proofs.read.without_gravity.Statement.{statement}
 use Rattle.ahrs.proofs.read.without_gravity.Tie as tie
 
-returns : tie.Need-returns
-unfolding withoutGravity
-returns c = simp (eq-eqb _ _ (c .before .if1 .taken))
-
-returns-2 : tie.Need-returns-2
-unfolding withoutGravity
-returns-2 c = simp (ne-eqb _ _ (c .before .if1 .left))
-
 pub without-gravity-spec : {M : Type 1} → statement M
-without-gravity-spec = tie.close (tie.spec returns returns-2)
+unfolding withoutGravity
+without-gravity-spec = tie.close (tie.spec (λ c. simp (eq-eqb _ _ (c .before .if1 .taken))) (λ c. simp (ne-eqb _ _ (c .before .if1 .left))))

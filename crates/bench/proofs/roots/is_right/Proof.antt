@@ -2,8 +2,5 @@
 use Rattle.bench.proofs.roots.is_right.Statement.{statement}
 use Rattle.bench.proofs.roots.is_right.Tie as tie
 
-returns : tie.Need-returns
-returns c = cc (c .before .before .sqrtf .ensures .0)
-
 pub is-right-spec : {M : Type 1} → statement M
-is-right-spec = tie.close (tie.spec (λ c κs. tt) (λ c κs. tt) (λ c κs. tt) (λ c κs. tt) (λ c κs. tt) returns)
+is-right-spec = tie.close (tie.spec (λ c κs. tt) (λ c κs. tt) (λ c κs. tt) (λ c κs. tt) (λ c κs. tt) (λ c. cc (c .before .before .sqrtf .ensures .0)))

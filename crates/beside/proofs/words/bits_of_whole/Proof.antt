@@ -40,17 +40,10 @@ cast-result c =
     let below = simp back at (c .if1 .taken) in
     simp (back, toZ-ofZ (flip-fits (c .before .args .n) (c .before .fits .n) below)) (flip-not-below (c .before .args .n) (c .before .fits .n) below)
 
-returns : tie.Need-returns
-returns c = search needs
-
 cast-result-2 : tie.Need-cast-result-2
 cast-result-2 c =
     let back = toZ-ofZ (c .before .fits .n) in
     rw back (not-below (c .before .args .n) (c .before .fits .n) (simp back at (c .if1 .left)))
 
-returns-2 : tie.Need-returns-2
-returns-2 c = search needs
-
 pub bits-of-whole-spec : {M : Type 1} → statement M
-bits-of-whole-spec =
-    tie.close (tie.spec sub-result cast-result returns cast-result-2 returns-2)
+bits-of-whole-spec = tie.close (tie.spec sub-result cast-result (λ c. search needs) cast-result-2 (λ c. search needs))

@@ -1,5 +1,5 @@
 -- `bias::Bias::all_finite` meets its contract: the next state is the state with another timer, or with another offset. Assumes nothing.
-use Rattle.bias.proofs.Steps.{standing, growing}
+use Rattle.bias.proofs.Finite.{standing, growing}
 use Rattle.bias.proofs.Bias.all_finite.Statement.{statement}
 use Rattle.bias.proofs.Bias.all_finite.Tie as tie
 

@@ -1,17 +1,13 @@
--- `bias::Bias::is_active` meets its contract, by its one check. Assumes nothing.
-use mathlib.Core.Path.{refl, _∙_}
-use Rattle.answer.proofs.Tests.{one}
-use Rattle.answer.proofs.Answering.{fails, passes, all-pass, refuses, accepts}
+-- `bias::Bias::is_active` meets its contract, by the number of the state's check. Assumes nothing.
+use mathlib.Core.Path.{refl}
+use Rattle.answer.proofs.Answering.{refuses, gives}
 use Rattle.bias.specs.declared.reads.ActiveRead.the-variants.{Refused}
-use Rattle.bias.specs.Calls.{activeNumber, activeValues}
+use Rattle.bias.specs.Calls.{activeSaid}
 use Rattle.bias.proofs.Bias.is_active.Statement.{statement}
 use Rattle.bias.proofs.Bias.is_active.Tie as tie
 
-returns : tie.Need-returns
-returns c = refuses activeNumber activeValues Refused (λ n. refl) (λ n. refl) _ _ 4 refl (fails 5 _ (one (c .before .is-finite .ensures) (c .if1 .taken)))
-
-returns-2 : tie.Need-returns-2
-returns-2 c = accepts activeNumber activeValues Refused (λ n. refl) (λ n. refl) _ _ refl (passes 5 _ (one (c .before .before .is-finite .ensures) (c .before .if1 .left)) ∙ all-pass)
-
 pub is-active-spec : {M : Type 1} → statement M
-is-active-spec = tie.close (tie.spec (λ c κs. tt) returns returns-2)
+is-active-spec =
+    tie.close
+    (tie.spec (λ c κs. tt) (λ c. refuses activeSaid Refused (λ n. refl) _ _ refl (c .before .refusal .ensures) (c .if1 .taken))
+    (λ c. gives activeSaid Refused (λ n. refl) _ _ refl (c .before .before .refusal .ensures) (c .before .if1 .left) refl))

@@ -1,17 +1,13 @@
--- `bias::Bias::offset` meets its contract, by its one check. Assumes nothing.
-use mathlib.Core.Path.{refl, _∙_}
-use Rattle.answer.proofs.Tests.{one}
-use Rattle.answer.proofs.Answering.{fails, passes, all-pass, refuses, accepts}
+-- `bias::Bias::offset` meets its contract, by the number of the state's check. Assumes nothing.
+use mathlib.Core.Path.{refl}
+use Rattle.answer.proofs.Answering.{refuses, gives}
 use Rattle.bias.specs.declared.reads.OffsetRead.the-variants.{Refused}
-use Rattle.bias.specs.Calls.{offsetNumber, offsetValues}
+use Rattle.bias.specs.Calls.{offsetSaid}
 use Rattle.bias.proofs.Bias.offset.Statement.{statement}
 use Rattle.bias.proofs.Bias.offset.Tie as tie
 
-returns : tie.Need-returns
-returns c = refuses offsetNumber offsetValues Refused (λ n. refl) (λ n. refl) _ _ 4 refl (fails 5 _ (one (c .before .is-finite .ensures) (c .if1 .taken)))
-
-returns-2 : tie.Need-returns-2
-returns-2 c = accepts offsetNumber offsetValues Refused (λ n. refl) (λ n. refl) _ _ refl (passes 5 _ (one (c .before .before .is-finite .ensures) (c .before .if1 .left)) ∙ all-pass)
-
 pub offset-spec : {M : Type 1} → statement M
-offset-spec = tie.close (tie.spec (λ c κs. tt) returns returns-2)
+offset-spec =
+    tie.close
+    (tie.spec (λ c κs. tt) (λ c. refuses offsetSaid Refused (λ n. refl) _ _ refl (c .before .refusal .ensures) (c .if1 .taken))
+    (λ c. gives offsetSaid Refused (λ n. refl) _ _ refl (c .before .before .refusal .ensures) (c .before .if1 .left) refl))

@@ -4,9 +4,6 @@ use Rattle.bias.specs.Settings.{coefficientOf, timeoutOf}
 use Rattle.bias.proofs.BiasSettings.derived.Statement.{statement}
 use Rattle.bias.proofs.BiasSettings.derived.Tie as tie
 
-returns : tie.Need-returns
-unfolding coefficientOf timeoutOf
-returns c = record { coefficient = refl; timeout = c .to-u32 .ensures }
-
 pub derived-spec : {M : Type 1} → statement M
-derived-spec = tie.close (tie.spec (λ c κs. tt) returns)
+unfolding coefficientOf timeoutOf
+derived-spec = tie.close (tie.spec (λ c κs. tt) (λ c. record { coefficient = refl; timeout = c .to-u32 .ensures }))

@@ -10,25 +10,5 @@ Inv-loop log count learnt₀ i₀ learnt i = Unit {0}
 abbrev μ-loop : tie.MeasureT-loop
 μ-loop log count learnt₀ i₀ learnt i = count - i
 
-loop-holds : tie.Need-loop-holds Inv-loop μ-loop
-loop-holds c = tt
-
-reading-step-requires : tie.Need-reading-step-requires Inv-loop μ-loop
-reading-step-requires c κs = tt
-
-add-i : tie.Need-add-i Inv-loop μ-loop
-add-i c = omega arith
-
-loop-less : tie.Need-loop-less Inv-loop μ-loop
-loop-less c = omega arith
-
-loop-again : tie.Need-loop-again Inv-loop μ-loop
-loop-again c = tt
-
-returns : tie.Need-returns Inv-loop μ-loop
-returns c = tt
-
 pub run-readings-spec : {M : Type 1} → statement M
-run-readings-spec =
-    tie.close
-    (tie.spec Inv-loop μ-loop loop-holds reading-step-requires add-i loop-less loop-again returns)
+run-readings-spec = tie.close (tie.spec Inv-loop μ-loop (λ c. tt) (λ c κs. tt) (λ c. omega arith) (λ c. omega arith) (λ c. tt) (λ c. tt))

@@ -1,5 +1,4 @@
--- `number::fabsf` meets its contract: each return has the sign's test that it needs, and a zero that an `f32` holds is written in one way.
--- Assumes nothing.
+-- `number::fabsf` meets its contract: each return has the sign's test that it needs, and a zero that an `f32` holds is written in one way. Assumes nothing.
 use mathlib.Core.Path.{sym, subst}
 use lib.Dec.{T}
 use lib.Ieee.{ofBits}
@@ -7,17 +6,10 @@ use Rattle.number.proofs.Size.{fabsf-negative, fabsf-nought, fabsf-othe
 use Rattle.number.proofs.float.fabsf.Statement.{statement}
 use Rattle.number.proofs.float.fabsf.Tie as tie
 
-returns : tie.Need-returns
-unfolding ofBits
-returns c = fabsf-negative (c .before .args .x) (c .if1 .taken)
-
-returns-2 : tie.Need-returns-2
-unfolding ofBits
-returns-2 c = fabsf-nought (c .before .before .args .x) (subst T (sym (c .before .before .good .0 .1)) tt) (c .if2 .taken)
-
-returns-3 : tie.Need-returns-3
-unfolding ofBits
-returns-3 c = fabsf-other (c .before .before .args .x) (c .before .if1 .left) (c .if2 .left)
-
 pub fabsf-spec : {M : Type 1} → statement M
-fabsf-spec = tie.close (tie.spec returns returns-2 returns-3)
+unfolding ofBits
+fabsf-spec =
+    tie.close
+    (tie.spec (λ c. fabsf-negative (c .before .args .x) (c .if1 .taken))
+    (λ c. fabsf-nought (c .before .before .args .x) (subst T (sym (c .before .before .good .0 .1)) tt) (c .if2 .taken))
+    (λ c. fabsf-other (c .before .before .args .x) (c .before .if1 .left) (c .if2 .left)))

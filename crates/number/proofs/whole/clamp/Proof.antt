@@ -14,13 +14,23 @@ returns-2 : tie.Need-returns-2
 unfolding clampOf
 returns-2 c =
     let r = c .before .before .fits in
-    simp (toZ-ofZ (r .max), simp (toZ-ofZ (r .value), toZ-ofZ (r .min)) at (c .before .if1 .left), simp (toZ-ofZ (r .value), toZ-ofZ (r .max)) at (c .if2 .taken))
+    simp (
+      toZ-ofZ (r .max),
+      simp (toZ-ofZ (r .value), toZ-ofZ (r .min)) at (c .before .if1 .left),
+      simp (toZ-ofZ (r .value), toZ-ofZ (r .max)) at
+          (c .if2 .taken),
+    )
 
 returns-3 : tie.Need-returns-3
 unfolding clampOf
 returns-3 c =
     let r = c .before .before .fits in
-    simp (toZ-ofZ (r .value), simp (toZ-ofZ (r .value), toZ-ofZ (r .min)) at (c .before .if1 .left), simp (toZ-ofZ (r .value), toZ-ofZ (r .max)) at (c .if2 .left))
+    simp (
+      toZ-ofZ (r .value),
+      simp (toZ-ofZ (r .value), toZ-ofZ (r .min)) at (c .before .if1 .left),
+      simp (toZ-ofZ (r .value), toZ-ofZ (r .max)) at
+          (c .if2 .left),
+    )
 
 pub clamp-spec : {M : Type 1} → statement M
 clamp-spec = tie.close (tie.spec returns returns-2 returns-3)

@@ -5,8 +5,5 @@ use mir.Facts.{toZ-ofZ}
 use Rattle.number.proofs.whole.from_i32.Statement.{statement}
 use Rattle.number.proofs.whole.from_i32.Tie as tie
 
-returns : tie.Need-returns
-returns c = c .nearest-i32-to-f32 .ensures ∙ ap (ofInt binary32) (toZ-ofZ (c .before .fits .n))
-
 pub from-i32-spec : {M : Type 1} → statement M
-from-i32-spec = tie.close (tie.spec (λ c κs. tt) returns)
+from-i32-spec = tie.close (tie.spec (λ c κs. tt) (λ c. c .nearest-i32-to-f32 .ensures ∙ ap (ofInt binary32) (toZ-ofZ (c .before .fits .n))))

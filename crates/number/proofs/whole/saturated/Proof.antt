@@ -15,7 +15,10 @@ returns-2 c = simp (simp (toZ-ofZ (c .before .before .fits .wide)) at (c .before
 
 cast-result : tie.Need-cast-result
 unfolding saturatedOf
-cast-result c = rw (toZ-ofZ (c .before .before .fits .wide)) (within (c .before .before .args .wide) (simp (toZ-ofZ (c .before .before .fits .wide)) at (c .before .if1 .left)) (simp (toZ-ofZ (c .before .before .fits .wide)) at (c .if2 .left)))
+cast-result c =
+    rw (toZ-ofZ (c .before .before .fits .wide))
+    (within (c .before .before .args .wide) (simp (toZ-ofZ (c .before .before .fits .wide)) at (c .before .if1 .left))
+    (simp (toZ-ofZ (c .before .before .fits .wide)) at (c .if2 .left)))
 
 returns-3 : tie.Need-returns-3
 unfolding saturatedOf

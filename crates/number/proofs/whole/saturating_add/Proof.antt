@@ -5,12 +5,6 @@ use Rattle.number.proofs.Range.{wider, sum-fits, kept}
 use Rattle.number.proofs.whole.saturating_add.Statement.{statement}
 use Rattle.number.proofs.whole.saturating_add.Tie as tie
 
-cast-saturated : tie.Need-cast-saturated
-cast-saturated c = rw (toZ-ofZ (c .fits .a)) (wider (c .fits .a))
-
-cast-saturated-2 : tie.Need-cast-saturated-2
-cast-saturated-2 c = rw (toZ-ofZ (c .fits .b)) (wider (c .fits .b))
-
 add-saturated : tie.Need-add-saturated
 add-saturated c =
     let a = c .fits .a in
@@ -26,4 +20,7 @@ returns c =
     ∙ simp (c .saturated .ensures, toZ-ofZ a, toZ-ofZ b, toZ-ofZ (wider a), toZ-ofZ (wider b), toZ-ofZ s)
 
 pub saturating-add-spec : {M : Type 1} → statement M
-saturating-add-spec = tie.close (tie.spec cast-saturated cast-saturated-2 add-saturated (λ c κs. tt) returns)
+saturating-add-spec =
+    tie.close
+    (tie.spec (λ c. rw (toZ-ofZ (c .fits .a)) (wider (c .fits .a))) (λ c. rw (toZ-ofZ (c .fits .b)) (wider (c .fits .b))) add-saturated (λ c κs. tt)
+    returns)

@@ -28,17 +28,11 @@ between : (c : tie.Else3) → Inside (c .before .before .before .args .x)
 unfolding ofBits neg
 between c = inside (c .before .before .before .args .x) (c .before .before .if1 .left) (c .before .if2 .left) (c .if3 .left)
 
-truncating-f32-to-i64-requires : tie.Need-truncating-f32-to-i64-requires
-truncating-f32-to-i64-requires c κs = (subst T (sym (between c .above)) tt, subst T (sym (between c .below)) tt)
-
 value : (c : tie.After-truncating-f32-to-i64)
     → toZ w64 (ofZ w64 (c .truncating-f32-to-i64 .result)) ≡ toSigned 31 (c .before .before .before .before .args .x)
 value c =
     let call = c .truncating-f32-to-i64 in
     toZ-ofZ {w = w64} {z = call .result} (record { sfits = call .ok }) ∙ call .ensures ∙ between (c .before) .same
-
-cast-result : tie.Need-cast-result
-cast-result c = rw (value c) (record { sfits = toSigned-in 31 (c .before .before .before .before .args .x) })
 
 returns-4 : tie.Need-returns-4
 returns-4 c =
@@ -48,4 +42,5 @@ returns-4 c =
 pub to-i32-spec : {M : Type 1} → statement M
 to-i32-spec =
     tie.close
-    (tie.spec returns returns-2 returns-3 truncating-f32-to-i64-requires cast-result returns-4)
+    (tie.spec returns returns-2 returns-3 (λ c κs. (subst T (sym (between c .above)) tt, subst T (sym (between c .below)) tt))
+    (λ c. rw (value c) (record { sfits = toSigned-in 31 (c .before .before .before .before .args .x) })) returns-4)

@@ -1,5 +1,4 @@
--- `number::to_u32` meets its contract: each return has the tests that say which case of `toUnsigned` it is.
--- Assumes nothing.
+-- `number::to_u32` meets its contract: each return has the tests that say which case of `toUnsigned` it is. Assumes nothing.
 use borrow.Author.Needs.{needs}
 use lib.Ieee.{ofBits, neg}
 use Rattle.number.proofs.Unsigned.{in-range, over-range, far-above, not-above, pass}
@@ -9,9 +8,6 @@ use Rattle.number.proofs.whole.to_u32.Tie as tie
 truncating-f32-to-u64-requires : tie.Need-truncating-f32-to-u64-requires
 unfolding ofBits neg
 truncating-f32-to-u64-requires c κs = (pass (c .before .if1 .taken), pass (c .if2 .taken))
-
-cast-result : tie.Need-cast-result
-cast-result c = search needs
 
 returns : tie.Need-returns
 returns c =
@@ -32,6 +28,4 @@ unfolding ofBits neg
 returns-4 c = not-above (c .before .args .x) (c .if1 .left)
 
 pub to-u32-spec : {M : Type 1} → statement M
-to-u32-spec =
-    tie.close
-    (tie.spec truncating-f32-to-u64-requires cast-result returns returns-2 returns-3 returns-4)
+to-u32-spec = tie.close (tie.spec truncating-f32-to-u64-requires (λ c. search needs) returns returns-2 returns-3 returns-4)

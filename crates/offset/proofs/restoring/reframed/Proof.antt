@@ -7,15 +7,6 @@ use borrow.Author.Needs.{needs}
 use Rattle.offset.proofs.restoring.reframed.Statement.{statement}
 use Rattle.offset.proofs.restoring.reframed.Tie as tie
 
-enum-known-undoing : tie.Need-enum-known-undoing
-enum-known-undoing c = search needs
-
-enum-told : tie.Need-enum-told
-enum-told c = search needs
-
-returns : tie.Need-returns
-returns c = absurd (no-refusal (c .before .before .before .pre .0) (c .before .before .inverse .ensures) (c .enum-told .given .1))
-
 turned-requires : tie.Need-turned-requires
 turned-requires c κs =
     let i = c .before .before .before in
@@ -35,4 +26,8 @@ returns-2 c =
     reframes _ _ _ (inverse-number (i .before .pre .0) (i .inverse .ensures) (u .undoing .given .1)) (c .before .turned .ensures) (c .turned2 .ensures)
 
 pub reframed-spec : {M : Type 1} → statement M
-reframed-spec = tie.close (tie.spec (λ c κs. tt) enum-known-undoing enum-told returns turned-requires turned-requires-2 returns-2)
+reframed-spec =
+    tie.close
+    (tie.spec (λ c κs. tt) (λ c. search needs) (λ c. search needs)
+    (λ c. absurd (no-refusal (c .before .before .before .pre .0) (c .before .before .inverse .ensures) (c .enum-told .given .1))) turned-requires
+    turned-requires-2 returns-2)

@@ -4,9 +4,6 @@ use borrow.Author.Needs.{needs}
 use Rattle.offset.proofs.restoring.turned.Statement.{statement}
 use Rattle.offset.proofs.restoring.turned.Tie as tie
 
-enum-known-answer : tie.Need-enum-known-answer
-enum-known-answer c = search needs
-
 returns : tie.Need-returns
 returns c =
     let s = c .before .before in
@@ -18,4 +15,4 @@ returns-2 c =
     from-axes _ (is-turned _ _ (t .before .pre .0) (t .before .pre .1) (t .turned .ensures)) (c .before .before .answer .given .1) (c .new .ensures)
 
 pub turned-spec : {M : Type 1} → statement M
-turned-spec = tie.close (tie.spec (λ c κs. tt) enum-known-answer returns (λ c κs. tt) returns-2)
+turned-spec = tie.close (tie.spec (λ c κs. tt) (λ c. search needs) returns (λ c κs. tt) returns-2)

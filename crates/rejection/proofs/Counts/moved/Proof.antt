@@ -4,7 +4,7 @@ use mir.Syntax.{w32}
 use mir.Val.{toZ, ofZ}
 use borrow.Author.Needs.{needs}
 use Rattle.number.proofs.Range.{kept}
-use Rattle.rejection.specs.Step.{movedOf}
+use Rattle.rejection.specs.Counts.{movedOf}
 use Rattle.rejection.proofs.Counts.moved.Statement.{statement}
 use Rattle.rejection.proofs.Counts.moved.Tie as tie
 

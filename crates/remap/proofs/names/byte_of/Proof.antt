@@ -6,18 +6,8 @@ use Rattle.remap.proofs.Naming.{byte-at}
 use Rattle.remap.proofs.names.byte_of.Statement.{statement}
 use Rattle.remap.proofs.names.byte_of.Tie as tie
 
-mul-at : tie.Need-mul-at
-mul-at c = search needs
-
-add-at : tie.Need-add-at
-add-at c = search needs
-
-array-read-result : tie.Need-array-read-result
-array-read-result c = search needs
-
-returns : tie.Need-returns
-unfolding nameOf mountingOf
-returns c = byte-at (c .args .mounting) (c .args .k) (c .pre .0) (c .pre .1)
-
 pub byte-of-spec : {M : Type 1} → statement M
-byte-of-spec = tie.close (tie.spec mul-at add-at array-read-result returns)
+unfolding nameOf mountingOf
+byte-of-spec =
+    tie.close
+    (tie.spec (λ c. search needs) (λ c. search needs) (λ c. search needs) (λ c. byte-at (c .args .mounting) (c .args .k) (c .pre .0) (c .pre .1)))

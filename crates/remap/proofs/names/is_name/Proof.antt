@@ -15,45 +15,20 @@ Inv-loop name mounting k₀ k = (k ≤ 6) × (same name (nameOf mounting) ≡ sa
 abbrev μ-loop : tie.MeasureT-loop
 μ-loop name mounting k₀ k = 6 - k
 
-loop-holds : tie.Need-loop-holds Inv-loop μ-loop
-loop-holds c = (omega arith, refl)
-
-shared-slice-read-if1 : tie.Need-shared-slice-read-if1 Inv-loop μ-loop
-shared-slice-read-if1 c = search needs
-
-byte-of-requires : tie.Need-byte-of-requires Inv-loop μ-loop
-byte-of-requires c κs = search needs
-
 returns : tie.Need-returns Inv-loop μ-loop
 returns c =
     let l = c .before .before .before in
-    sym (l .before .loop .inv .1 ∙ name-not _ _ _ (l .before .before .before .pre .0) (l .loop-test .taken) (λ e. c .if1 .taken (e ∙ sym (c .before .byte-of .ensures))))
-
-add-k : tie.Need-add-k Inv-loop μ-loop
-add-k c = search needs
-
-loop-less : tie.Need-loop-less Inv-loop μ-loop
-loop-less c = search needs
+    sym (l .before .loop .inv .1
+    ∙ name-not _ _ _ (l .before .before .before .pre .0) (l .loop-test .taken) (λ e. c .if1 .taken (e ∙ sym (c .before .byte-of .ensures))))
 
 loop-again : tie.Need-loop-again Inv-loop μ-loop
 loop-again c =
     let l = c .before .before .before in
-    (omega arith, l .before .loop .inv .1 ∙ name-next _ _ _ (l .before .before .before .pre .0) (l .loop-test .taken) (c .if1 .left ∙ c .before .byte-of .ensures))
-
-returns-2 : tie.Need-returns-2 Inv-loop μ-loop
-returns-2 c = sym (c .before .loop .inv .1 ∙ name-end _ _ _ (c .before .before .before .pre .0) (c .loop-test .left))
+    let same = c .if1 .left ∙ c .before .byte-of .ensures in
+    (omega arith, l .before .loop .inv .1 ∙ name-next _ _ _ (l .before .before .before .pre .0) (l .loop-test .taken) same)
 
 pub is-name-spec : {M : Type 1} → statement M
 is-name-spec =
     tie.close
-    (tie.spec
-    Inv-loop
-    μ-loop
-    loop-holds
-    shared-slice-read-if1
-    byte-of-requires
-    returns
-    add-k
-    loop-less
-    loop-again
-    returns-2)
+    (tie.spec Inv-loop μ-loop (λ c. (omega arith, refl)) (λ c. search needs) (λ c κs. search needs) returns (λ c. search needs) (λ c. search needs)
+    loop-again (λ c. sym (c .before .loop .inv .1 ∙ name-end _ _ _ (c .before .before .before .pre .0) (c .loop-test .left))))

@@ -19,45 +19,20 @@ Inv-loop name mounting₀ mounting = (mounting ≤ 24) × (namedBy name ≡ firs
 abbrev μ-loop : tie.MeasureT-loop
 μ-loop name mounting₀ mounting = 24 - mounting
 
-returns : tie.Need-returns Inv-loop μ-loop
-returns c = gives-refusal _ _ 0 (fails 1 _ (differs _ 6 (c .if1 .taken)))
-
-loop-holds : tie.Need-loop-holds Inv-loop μ-loop
-loop-holds c = (omega arith, refl)
-
-is-name-requires : tie.Need-is-name-requires Inv-loop μ-loop
-is-name-requires c κs = search needs
-
 returns-2 : tie.Need-returns-2 Inv-loop μ-loop
 returns-2 c =
     let l = c .before .before in
-    reads _ (l .before .before .if1 .left) _ (l .loop-test .taken) (l .before .loop .inv .1 ∙ first-here _ 24 _ (l .loop-test .taken) (sym (c .before .is-name .ensures) ∙ c .if2 .taken))
-
-add-mounting : tie.Need-add-mounting Inv-loop μ-loop
-add-mounting c = search needs
-
-loop-less : tie.Need-loop-less Inv-loop μ-loop
-loop-less c = search needs
+    let here = first-here _ 24 _ (l .loop-test .taken) (sym (c .before .is-name .ensures) ∙ c .if2 .taken) in
+    reads _ (l .before .before .if1 .left) _ (l .loop-test .taken) (l .before .loop .inv .1 ∙ here)
 
 loop-again : tie.Need-loop-again Inv-loop μ-loop
 loop-again c =
     let l = c .before .before in
     (omega arith, l .before .loop .inv .1 ∙ first-next _ 24 _ (l .loop-test .taken) (sym (c .before .is-name .ensures) ∙ c .if2 .left))
 
-returns-3 : tie.Need-returns-3 Inv-loop μ-loop
-returns-3 c = unknown _ (c .before .before .if1 .left) _ (c .loop-test .left) (c .before .loop .inv .1 ∙ first-end _ 24 _ (c .loop-test .left))
-
 pub read-name-spec : {M : Type 1} → statement M
 read-name-spec =
     tie.close
-    (tie.spec
-    Inv-loop
-    μ-loop
-    returns
-    loop-holds
-    is-name-requires
-    returns-2
-    add-mounting
-    loop-less
-    loop-again
-    returns-3)
+    (tie.spec Inv-loop μ-loop (λ c. gives-refusal _ _ 0 (fails 1 _ (differs _ 6 (c .if1 .taken)))) (λ c. (omega arith, refl)) (λ c κs. search needs)
+    returns-2 (λ c. search needs) (λ c. search needs) loop-again
+    (λ c. unknown _ (c .before .before .if1 .left) _ (c .loop-test .left) (c .before .loop .inv .1 ∙ first-end _ 24 _ (c .loop-test .left))))

@@ -15,15 +15,6 @@ use borrow.Author.Needs.{needs}
 use Rattle.remap.proofs.table.compose.Statement.{statement}
 use Rattle.remap.proofs.table.compose.Tie as tie
 
-returns : tie.Need-returns
-returns c = gives-refusal _ _ 3 (fails 4 _ (c .if1 .taken))
-
-mul-at : tie.Need-mul-at
-mul-at c = search needs
-
-add-at : tie.Need-add-at
-add-at c = search needs
-
 array-read-t13 : tie.Need-array-read-t13
 array-read-t13 c =
     let a = c .before .args in
@@ -40,4 +31,6 @@ returns-2 c =
     gives-number _ _ (passes 4 _ (c .if1 .left) ∙ all-pass) (compose-at (a .first) (a .second) (omega arith) (omega arith))
 
 pub compose-spec : {M : Type 1} → statement M
-compose-spec = tie.close (tie.spec returns mul-at add-at array-read-t13 returns-2)
+compose-spec =
+    tie.close
+    (tie.spec (λ c. gives-refusal _ _ 3 (fails 4 _ (c .if1 .taken))) (λ c. search needs) (λ c. search needs) array-read-t13 returns-2)

@@ -13,15 +13,9 @@ use borrow.Author.Needs.{needs}
 use Rattle.remap.proofs.table.inverse.Statement.{statement}
 use Rattle.remap.proofs.table.inverse.Tie as tie
 
-returns : tie.Need-returns
-returns c = gives-refusal _ _ 3 (fails 4 _ (lt-ltb _ _ (c .if1 .taken)))
-
-array-read-t7 : tie.Need-array-read-t7
-array-read-t7 c = search needs
-
 returns-2 : tie.Need-returns-2
 unfolding inverseOf composeOf first same nameOf mountingOf
 returns-2 c = gives-number _ _ (passes 4 _ (le-ltb _ _ (c .if1 .left)) ∙ all-pass) (inverse-at (c .before .args .mounting) (omega arith))
 
 pub inverse-spec : {M : Type 1} → statement M
-inverse-spec = tie.close (tie.spec returns array-read-t7 returns-2)
+inverse-spec = tie.close (tie.spec (λ c. gives-refusal _ _ 3 (fails 4 _ (lt-ltb _ _ (c .if1 .taken)))) (λ c. search needs) returns-2)

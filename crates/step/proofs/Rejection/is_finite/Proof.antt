@@ -3,9 +3,6 @@ use Rattle.step.specs.Sensor.{finiteRejection}
 use Rattle.step.proofs.Rejection.is_finite.Statement.{statement}
 use Rattle.step.proofs.Rejection.is_finite.Tie as tie
 
-returns : tie.Need-returns
-unfolding finiteRejection
-returns c = c .is-finite .ensures
-
 pub is-finite-spec : {M : Type 1} → statement M
-is-finite-spec = tie.close (tie.spec (λ c κs. tt) returns)
+unfolding finiteRejection
+is-finite-spec = tie.close (tie.spec (λ c κs. tt) (λ c. c .is-finite .ensures))

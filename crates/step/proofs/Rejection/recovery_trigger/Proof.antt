@@ -4,7 +4,7 @@ use mir.Val.{SFits}
 use mir.Facts.{toZ-ofZ}
 use borrow.Author.Needs.{needs}
 use Rattle.step.specs.Sensor.{ratioOf}
-use Rattle.step.proofs.Judging.{is-nought, no-nought}
+use Rattle.step.proofs.Rejecting.{is-nought, no-nought}
 use Rattle.step.proofs.Ratio.{ratio}
 use Rattle.step.proofs.Rejection.recovery_trigger.Statement.{statement}
 use Rattle.step.proofs.Rejection.recovery_trigger.Tie as tie
@@ -22,7 +22,8 @@ returns-2 c =
     let r = first .before .args .self in
     let t = first .before .args .timeout in
     let f : SFits w32 (r .«recovery_trigger») = search needs in
-    ratio r t f (simp (no-nought t (first .if1 .left), c .from-i322 .ensures, c .before .from-i32 .ensures, toZ-ofZ (first .before .fits .timeout), toZ-ofZ f))
+    let timeout = toZ-ofZ (first .before .fits .timeout) in
+    ratio r t f (simp (no-nought t (first .if1 .left), c .from-i322 .ensures, c .before .from-i32 .ensures, timeout, toZ-ofZ f))
 
 pub recovery-trigger-spec : {M : Type 1} → statement M
 recovery-trigger-spec = tie.close (tie.spec returns (λ c κs. tt) (λ c κs. tt) returns-2)

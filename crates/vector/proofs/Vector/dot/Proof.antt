@@ -3,9 +3,6 @@ use Rattle.vector.specs.Vectors.{dotOf}
 use Rattle.vector.proofs.Vector.dot.Statement.{statement}
 use Rattle.vector.proofs.Vector.dot.Tie as tie
 
-returns : tie.Need-returns
-unfolding dotOf
-returns c = cc
-
 pub dot-spec : {M : Type 1} → statement M
-dot-spec = tie.close (tie.spec (λ c κs. tt) (λ c κs. tt) returns)
+unfolding dotOf
+dot-spec = tie.close (tie.spec (λ c κs. tt) (λ c κs. tt) (λ c. cc))

@@ -3,10 +3,6 @@ use Rattle.vector.specs.Vectors.{finiteVector}
 use Rattle.vector.proofs.Vector.is_finite.Statement.{statement}
 use Rattle.vector.proofs.Vector.is_finite.Tie as tie
 
-returns : tie.Need-returns
-unfolding finiteVector
-returns c = cc
-
 pub is-finite-spec : {M : Type 1} → statement M
-is-finite-spec =
-    tie.close (tie.spec (λ c κs. tt) (λ c κs. tt) (λ c κs. tt) returns)
+unfolding finiteVector
+is-finite-spec = tie.close (tie.spec (λ c κs. tt) (λ c κs. tt) (λ c κs. tt) (λ c. cc))

@@ -3,9 +3,6 @@ use Rattle.vector.specs.Vectors.{normOf}
 use Rattle.vector.proofs.Vector.norm.Statement.{statement}
 use Rattle.vector.proofs.Vector.norm.Tie as tie
 
-returns : tie.Need-returns
-unfolding normOf
-returns c = cc
-
 pub norm-spec : {M : Type 1} → statement M
-norm-spec = tie.close (tie.spec (λ c κs. tt) (λ c κs. tt) returns)
+unfolding normOf
+norm-spec = tie.close (tie.spec (λ c κs. tt) (λ c κs. tt) (λ c. cc))

@@ -3,9 +3,6 @@ use Rattle.vector.specs.Vectors.{normSquaredOf}
 use Rattle.vector.proofs.Vector.norm_squared.Statement.{statement}
 use Rattle.vector.proofs.Vector.norm_squared.Tie as tie
 
-returns : tie.Need-returns
-unfolding normSquaredOf
-returns c = cc
-
 pub norm-squared-spec : {M : Type 1} → statement M
-norm-squared-spec = tie.close (tie.spec (λ c κs. tt) (λ c κs. tt) returns)
+unfolding normSquaredOf
+norm-squared-spec = tie.close (tie.spec (λ c κs. tt) (λ c κs. tt) (λ c. cc))

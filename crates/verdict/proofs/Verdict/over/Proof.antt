@@ -12,18 +12,13 @@ Inv-loop text verdict₀ i₀ verdict i = Read verdict₀ text verdict i
 abbrev μ-loop : tie.MeasureT-loop
 μ-loop text verdict₀ i₀ verdict i = length text - i
 
-loop-holds : tie.Need-loop-holds Inv-loop μ-loop
-loop-holds c = read-none _ _
-
 loop-again : tie.Need-loop-again Inv-loop μ-loop
 loop-again c =
     let at = c .before .before in
     read-next _ _ _ _ _ (at .before .loop .inv) (at .loop-test .taken) (c .byte .ensures)
 
-returns : tie.Need-returns Inv-loop μ-loop
-returns c = read-all _ _ _ _ (c .before .loop .inv) (c .loop-test .left)
-
 pub over-spec : {M : Type 1} → statement M
 over-spec =
     tie.close
-    (tie.spec Inv-loop μ-loop loop-holds (λ c. search needs) (λ c κs. search needs) (λ c. search needs) (λ c. search needs) loop-again returns)
+    (tie.spec Inv-loop μ-loop (λ c. read-none _ _) (λ c. search needs) (λ c κs. search needs) (λ c. search needs) (λ c. search needs) loop-again
+    (λ c. read-all _ _ _ _ (c .before .loop .inv) (c .loop-test .left)))

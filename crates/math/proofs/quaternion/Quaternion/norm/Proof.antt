@@ -3,9 +3,6 @@ use Rattle.math.specs.Quaternions.{normOf}
 use Rattle.math.proofs.quaternion.Quaternion.norm.Statement.{statement}
 use Rattle.math.proofs.quaternion.Quaternion.norm.Tie as tie
 
-returns : tie.Need-returns
-unfolding normOf
-returns c = simp (c .sqrtf .ensures .0, c .before .norm-squared .ensures)
-
 pub norm-spec : {M : Type 1} → statement M
-norm-spec = tie.close (tie.spec (λ c κs. tt) (λ c κs. tt) returns)
+unfolding normOf
+norm-spec = tie.close (tie.spec (λ c κs. tt) (λ c κs. tt) (λ c. simp (c .sqrtf .ensures .0, c .before .norm-squared .ensures)))

@@ -3,9 +3,6 @@ use Rattle.math.specs.Quaternions.{rotateOf}
 use Rattle.math.proofs.quaternion.Quaternion.rotate.Statement.{statement}
 use Rattle.math.proofs.quaternion.Quaternion.rotate.Tie as tie
 
-returns : tie.Need-returns
-unfolding rotateOf
-returns c = simp (c .mul-vector .ensures, c .before .to-matrix .ensures)
-
 pub rotate-spec : {M : Type 1} → statement M
-rotate-spec = tie.close (tie.spec (λ c κs. tt) (λ c κs. tt) returns)
+unfolding rotateOf
+rotate-spec = tie.close (tie.spec (λ c κs. tt) (λ c κs. tt) (λ c. simp (c .mul-vector .ensures, c .before .to-matrix .ensures)))

@@ -1,0 +1,72 @@
+-- What an accepted start, settings change or update says: settings that derive a finite configuration and a T not below 0, or a finite next state.
+-- Assumes nothing.
+use mathlib.Core.Path.{_≡_}
+use mathlib.Core.Bool.{true, not, _&&_}
+use mathlib.Core.List.{[]}
+use lib.IntN.{pos}
+use lib.Ieee.{lt}
+use lib.Ieee.Scale.{finite}
+use Rattle.number.specs.Float32 as float
+use Rattle.answer.specs.Refusals.{refusalOf}
+use Rattle.answer.proofs.Answering.{passed}
+use Rattle.answer.proofs.Tests.{both, untrue}
+use Rattle.vector.specs.declared.Vector.{Vector}
+use Rattle.vector.specs.Vectors.{finiteVector}
+use Rattle.rejection.specs.Inside.{NotBelow}
+use Rattle.settings.specs.declared.Settings.{Settings}
+use Rattle.settings.specs.Config.{knownConvention, finiteSettings, soundSettings, derivedOf, finiteConfig, settingsChecks}
+use Rattle.ahrs.specs.declared.Ahrs.{Ahrs}
+use Rattle.ahrs.specs.Filter.{finiteState, updatedOf}
+use Rattle.ahrs.specs.Calls.{updateChecks, changeChecks}
+use Rattle.reached.proofs.Timeouts.{product-cut}
+
+timeout-cut : (t : Settings) → finiteSettings t ≡ true → soundSettings t ≡ true → NotBelow (pos 0) (derivedOf t .«rejection_timeout»)
+unfolding finiteSettings derivedOf
+timeout-cut t f s =
+    let (f5, timeout) = both _ (finite (t .«rejection_timeout»)) f in
+    let (f4, _) = both _ (finite (t .«magnetic_rejection_squared»)) f5 in
+    let (f3, _) = both _ (finite (t .«acceleration_rejection_squared»)) f4 in
+    let (f2, _) = both _ (finite (t .«gyroscope_range»)) f3 in
+    let (rate, _) = both (finite (t .«sample_rate»)) _ f2 in
+    let (limits, least) = both _ (not (lt (t .«rejection_timeout») float.zero)) s in
+    let (first, _) = both _ (not (lt (t .«magnetic_rejection_squared») float.zero)) limits in
+    let (above, _) = both (lt float.zero (t .«sample_rate»)) _ first in
+    product-cut (t .«sample_rate») (t .«rejection_timeout») rate timeout above (untrue (lt (t .«rejection_timeout») float.zero) least)
+
+-- settings whose start is accepted
+pub record Accepted (t : Settings) : Type 0 where
+  pub known : knownConvention t ≡ true
+  pub finite : finiteSettings t ≡ true
+  pub config : finiteConfig (derivedOf t) ≡ true
+  pub timeout : NotBelow (pos 0) (derivedOf t .«rejection_timeout»)
+
+pub start-accepted : (t : Settings) → refusalOf (settingsChecks t) ≡ 0 → Accepted t
+start-accepted t e =
+    let k = passed 3 (knownConvention t) _ e in
+    let f = passed 4 (finiteSettings t) _ (k .1) in
+    let p = passed 5 (soundSettings t) _ (f .1) in
+    record {
+      known = k .0;
+      finite = f .0;
+      config = passed 6 (finiteConfig (derivedOf t)) [] (p .1) .0;
+      timeout = timeout-cut t (f .0) (p .0);
+    }
+
+pub change-accepted : (s : Ahrs) (t : Settings) → refusalOf (changeChecks s t) ≡ 0 → Accepted t
+change-accepted s t e =
+    let k = passed 3 (knownConvention (s .settings) && knownConvention t) _ e in
+    let f = passed 4 (finiteState s && finiteSettings t) _ (k .1) in
+    let p = passed 5 (soundSettings t) _ (f .1) in
+    let g = both (finiteState s) (finiteSettings t) (f .0) .1 in
+    record {
+      known = both (knownConvention (s .settings)) (knownConvention t) (k .0) .1;
+      finite = g;
+      config = passed 6 (finiteConfig (derivedOf t)) [] (p .1) .0;
+      timeout = timeout-cut t g (p .0);
+    }
+
+pub update-accepted : (s : Ahrs) (g a m : Vector) → refusalOf (updateChecks s g a m) ≡ 0 → finiteState (updatedOf s g a m) ≡ true
+update-accepted s g a m e =
+    let k = passed 3 (knownConvention (s .settings)) _ e in
+    let f = passed 4 (finiteState s && (finiteVector g && finiteVector a && finiteVector m)) _ (k .1) in
+    passed 6 (finiteState (updatedOf s g a m)) [] (f .1) .0

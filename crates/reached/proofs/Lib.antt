@@ -1,0 +1,9 @@
+-- in reading order
+pub mod Covered  -- the code's calls are the steps of a run
+mod Timeouts  -- a product of a rate and a timeout is not below 0
+mod Accepting  -- what an accepted call says; on Timeouts
+mod Finite  -- which changes leave a state's floats finite
+mod Counting  -- what holds of the counts after a reset and an update
+mod Sound  -- what each call makes of a sound state; on Finite, Counting
+pub mod Running  -- every state is sound; on Accepting, Sound
+pub mod Lowering  -- a trigger goes above T only where T is lowered; on Counting

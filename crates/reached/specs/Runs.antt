@@ -1,0 +1,46 @@
+-- The calls of the filter as those of a run: what each is made of, by the definitions that its promise cites.
+use mathlib.Core.Path.{_≡_}
+use lib.Ieee.{Float}
+use Rattle.answer.specs.Runs.{answer, number, Step, Outline, sets, answers, stepOf}
+use Rattle.vector.specs.declared.Vector.{Vector}
+use Rattle.math.specs.declared.quaternion.Quaternion.{Quaternion}
+use Rattle.settings.specs.declared.Settings.{Settings}
+use Rattle.settings.specs.Config.{derivedOf}
+use Rattle.ahrs.specs.declared.Ahrs.{Ahrs}
+use Rattle.ahrs.specs.declared.Reading.{Reading}
+use Rattle.ahrs.specs.declared.change.Change.{Change}
+use Rattle.ahrs.specs.Filter.{restartedOf, skippedStartup, withSettings, withSamplePeriod, withQuaternion, updatedOf}
+use Rattle.ahrs.specs.Calls.{updateChecks, orientedOf, Updates, stateChecks, Restarts, SkipsStartup}
+use Rattle.ahrs.specs.Calls.{changeChecks, SetsSettings, periodChecks, SetsSamplePeriod, quaternionChecks, SetsQuaternion}
+
+pub data Call : Type 0 where
+  update : Vector → Vector → Vector → Call
+  restart : Call
+  skip-startup : Call
+  set-settings : Settings → Call
+  set-sample-period : Float → Call
+  set-quaternion : Quaternion → Call
+
+abbrev pub outlineOf : Ahrs → Call → Outline Ahrs
+outlineOf s (update g a m) = answers (updateChecks s g a m) (updatedOf s g a m) (orientedOf (updatedOf s g a m .quaternion))
+outlineOf s restart = sets (stateChecks s) (restartedOf s)
+outlineOf s skip-startup = sets (stateChecks s) (skippedStartup s)
+outlineOf s (set-settings t) = sets (changeChecks s t) (withSettings s t (derivedOf t))
+outlineOf s (set-sample-period p) = sets (periodChecks s p) (withSamplePeriod s p)
+outlineOf s (set-quaternion q) = sets (quaternionChecks s q) (withQuaternion s q)
+
+-- what the code's calls leave and tell
+abbrev pub read : Reading → Step Ahrs
+read r = record { state = r .state; told = answer (r .answer) }
+
+abbrev pub changed : Change → Step Ahrs
+changed r = record { state = r .state; told = number (r .number) }
+
+-- is the step: the promises say so
+pub record Covered : Type 0 where
+  pub of-update : (s : Ahrs) (g a m : Vector) (r : Reading) → Updates s g a m r → stepOf outlineOf s (update g a m) ≡ read r
+  pub of-restart : (s : Ahrs) (r : Change) → Restarts s r → stepOf outlineOf s restart ≡ changed r
+  pub of-skip-startup : (s : Ahrs) (r : Change) → SkipsStartup s r → stepOf outlineOf s skip-startup ≡ changed r
+  pub of-settings : (s : Ahrs) (t : Settings) (r : Change) → SetsSettings s t r → stepOf outlineOf s (set-settings t) ≡ changed r
+  pub of-sample-period : (s : Ahrs) (p : Float) (r : Change) → SetsSamplePeriod s p r → stepOf outlineOf s (set-sample-period p) ≡ changed r
+  pub of-quaternion : (s : Ahrs) (q : Quaternion) (r : Change) → SetsQuaternion s q r → stepOf outlineOf s (set-quaternion q) ≡ changed r

@@ -1,0 +1,2 @@
+pub mod Refusing  -- the law of the table
+mod Wrong

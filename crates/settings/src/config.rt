@@ -1,0 +1,123 @@
+// What is derived from the settings, and which settings are sound.
+use super::Settings;
+use vector::Vector;
+ghost use mathlib.Core.Path.{_≡_};
+ghost use Rattle.answer.specs.Refusals.{refusalOf};
+ghost use Rattle.settings.specs.Config.{knownConvention, finiteSettings, soundSettings, limitOf, derivedOf, finiteConfig, settingsChecks, firesOf};
+
+// What is derived from the settings.
+pub struct Config {
+    pub sample_period: f32,
+    pub gain: f32,
+    pub startup_gain_rate: f32,
+    pub overrange_enabled: bool,
+    pub overrange_threshold: f32,
+    pub acceleration_rejection: f32,
+    pub magnetic_rejection: f32,
+    pub rejection_timeout: i32,
+}
+
+pub const INITIAL_STARTUP_GAIN: f32 = 10.0;
+
+const STARTUP_PERIOD: f32 = 3.0;
+
+const OVERRANGE_FACTOR: f32 = 0.98;
+
+const MAX: f32 = 340282350000000000000000000000000000000.0;
+
+impl Settings {
+    // Whether the convention is one of the three.
+    pub fn is_known(self) -> bool
+        ensures { λ r. ⌜ r ≡ knownConvention self ⌝ }
+    {
+        self.convention <= 2
+    }
+
+    pub fn is_finite(self) -> bool
+        ensures { λ r. ⌜ r ≡ finiteSettings self ⌝ }
+    {
+        number::is_finite(self.sample_rate)
+            & number::is_finite(self.gain)
+            & number::is_finite(self.gyroscope_range)
+            & number::is_finite(self.acceleration_rejection_squared)
+            & number::is_finite(self.magnetic_rejection_squared)
+            & number::is_finite(self.rejection_timeout)
+    }
+
+    // A rate above 0, and no limit or timeout below 0.
+    pub fn is_sound(self) -> bool
+        ensures { λ r. ⌜ r ≡ soundSettings self ⌝ }
+    {
+        (self.sample_rate > 0.0)
+            & !(self.acceleration_rejection_squared < 0.0)
+            & !(self.magnetic_rejection_squared < 0.0)
+            & !(self.rejection_timeout < 0.0)
+    }
+
+    // The limit in use: with gain or timeout 0.0 nothing is rejected.
+    fn limit(self, squared: f32) -> f32
+        ensures { λ r. ⌜ r ≡ limitOf self squared ⌝ }
+    {
+        if (self.gain != 0.0) & (self.rejection_timeout != 0.0) {
+            return squared;
+        }
+        MAX
+    }
+
+    // The Rust's `Config::new`.
+    pub fn derived(self) -> Config
+        ensures { λ r. ⌜ r ≡ derivedOf self ⌝ }
+    {
+        let sample_period = 1.0 / self.sample_rate;
+        Config {
+            sample_period,
+            gain: self.gain,
+            startup_gain_rate: ((INITIAL_STARTUP_GAIN - self.gain) / STARTUP_PERIOD)
+                * sample_period,
+            overrange_enabled: self.gyroscope_range > 0.0,
+            overrange_threshold: OVERRANGE_FACTOR * self.gyroscope_range,
+            acceleration_rejection: self.limit(self.acceleration_rejection_squared),
+            magnetic_rejection: self.limit(self.magnetic_rejection_squared),
+            rejection_timeout: number::to_i32(self.sample_rate * self.rejection_timeout),
+        }
+    }
+
+    // The number of a start with these settings, 0 where it is accepted.
+    pub fn refusal(self) -> u8
+        ensures { λ r. ⌜ r ≡ refusalOf (settingsChecks self) ⌝ }
+    {
+        if !self.is_known() {
+            return 4;
+        }
+        if !self.is_finite() {
+            return 5;
+        }
+        if !self.is_sound() {
+            return 6;
+        }
+        if !self.derived().is_finite() {
+            return 7;
+        }
+        0
+    }
+}
+
+impl Config {
+    pub fn is_finite(self) -> bool
+        ensures { λ r. ⌜ r ≡ finiteConfig self ⌝ }
+    {
+        number::is_finite(self.sample_period)
+            & number::is_finite(self.gain)
+            & number::is_finite(self.startup_gain_rate)
+            & number::is_finite(self.overrange_threshold)
+            & number::is_finite(self.acceleration_rejection)
+            & number::is_finite(self.magnetic_rejection)
+    }
+
+    // Whether the gyroscope is over its range.
+    pub fn overrange(self, gyroscope: Vector) -> bool
+        ensures { λ r. ⌜ r ≡ firesOf self gyroscope ⌝ }
+    {
+        self.overrange_enabled & gyroscope.exceeds(self.overrange_threshold)
+    }
+}

@@ -1,0 +1,2 @@
+pub mod Starred  -- every row holds, by evaluation
+mod Wrong

@@ -1,0 +1,3 @@
+pub mod Runs
+pub mod Reached
+pub mod Symmetry

@@ -1,0 +1,93 @@
+-- The line of a refusal: how it is made, its length of 10 bytes for a number of the table, and of 12 at most for any byte. Assumes nothing.
+use Prim.Native.Nat.{ℕ, zero, suc, _+_, _≤_, _<_}
+use native.Mathlib.Omega.{arith}
+use mathlib.Core.Path.{_≡_, refl, ap, sym, subst, _∙_}
+use mathlib.Core.Bool.{Bool, true, false, _&&_, cond}
+use mathlib.Core.List.{List, [], _∷_, _++_, append-nil, append-assoc}
+use lib.Dec.{T, ltb, ltb→lt}
+use lib.Ieee.Fits.{and-l, and-r}
+use lib.ListN.{length, take, drop, replicate, length-append}
+use lib.Seq.{take-append-seam}
+use borrow.Rule.Slice.PartMut.{putMid}
+use Rattle.answer.specs.Refusals.{Check, refusalOf}
+use Rattle.text.specs.Text.{space, newline, decimalOf, refusedWord, refusedOf}
+use Rattle.text.specs.Putting.{over, Puts, Fits}
+use Rattle.text.proofs.Putting.{fits-put}
+use Rattle.text.proofs.Digits.{one, three}
+
+-- ---- its length
+
+long : (n : ℕ) → length (refusedOf n) ≡ 9 + length (decimalOf n)
+unfolding refusedOf
+long n = omega (arith, length-append (decimalOf n) (newline ∷ []))
+
+pub ten : (n : ℕ) → n < 10 → length (refusedOf n) ≡ 10
+ten n h = omega (arith, long n, one n h)
+
+-- the numbers of some checks have one digit, so the number that they give has
+abbrev pub low : List Check → Bool
+low [] = true
+low (c ∷ cs) = ltb (c .number) 10 && low cs
+
+pub below-ten : (cs : List Check) → T (low cs) → {n : ℕ} → n ≡ refusalOf cs → n < 10
+unfolding refusalOf
+below-ten [] t e = omega arith
+below-ten (c ∷ cs) t {n} e =
+    subst (λ (k : ℕ). k < 10) (sym e)
+    (go (c .fails) (ltb→lt (c .number) 10 (and-l (ltb (c .number) 10) (low cs) t)) (below-ten cs (and-r (ltb (c .number) 10) (low cs) t) refl))
+  where
+    go : (b : Bool) → c .number < 10 → refusalOf cs < 10 → cond b (c .number) (refusalOf cs) < 10
+    go true h l = h
+    go false h l = l
+
+-- so its line stands where there are ten bytes
+pub puts-low : (k : ℕ) (old : List ℕ) {after : List ℕ} {n : ℕ} → k < 10 → 10 ≤ length old → Fits (refusedOf k) old after n → Puts (refusedOf k) old after n
+puts-low k old h room f = fits-put (refusedOf k) old (omega (arith, ten k h)) f
+
+-- ---- how it is made
+
+abbrev newlines : List ℕ
+newlines = newline ∷ newline ∷ newline ∷ newline ∷ []
+
+-- the word, a space, and newlines, over which the digits are put
+abbrev begun : List ℕ
+begun = refusedWord ++ (space ∷ newlines)
+
+-- the newlines behind the digits are the line's own, and what stands behind it
+left : (k : ℕ) → k ≤ 3 → drop k newlines ≡ newline ∷ drop (9 + k) (replicate 12 newline)
+left zero h = refl
+left (suc zero) h = refl
+left (suc (suc zero)) h = refl
+left (suc (suc (suc zero))) h = refl
+left (suc (suc (suc (suc k)))) h = absurd (omega arith)
+
+module _ (n : ℕ) (h : n < 256) {ys : List ℕ} {k : ℕ} (f : Fits (decimalOf n) newlines ys k) where
+  digits-put : Puts (decimalOf n) newlines ys k
+  digits-put = fits-put (decimalOf n) newlines (omega (arith, three n (omega arith))) f
+
+  pub few-digits : k ≤ 3
+  few-digits = omega (arith, digits-put .count, three n (omega arith))
+
+  pub line-count : 9 + k ≡ length (refusedOf n)
+  line-count = omega (arith, digits-put .count, long n)
+
+  pub makes-line : putMid 8 4 begun ys ≡ over (refusedOf n) (replicate 12 newline)
+  unfolding refusedOf over
+  makes-line =
+      let d = decimalOf n in
+      let behind : List ℕ → List ℕ = λ x. (refusedWord ++ (space ∷ [])) ++ x in
+      let size : length (refusedOf n) ≡ 9 + length d = long n in
+      ap behind (append-nil ys ∙ digits-put .holds ∙ ap (λ (x : List ℕ). d ++ x) (left (length d) (three n (omega arith))))
+      ∙ ap (λ (j : ℕ). behind (d ++ (newline ∷ drop j (replicate 12 newline)))) (sym size)
+      ∙ sym (ap behind (append-assoc d (newline ∷ []) (drop (length (refusedOf n)) (replicate 12 newline))))
+
+-- its bytes by themselves
+module _ (n k : ℕ) (s : List ℕ) (e : k ≡ length (refusedOf n)) (f : s ≡ over (refusedOf n) (replicate 12 newline)) where
+  pub line-within : k ≤ length s
+  unfolding over
+  line-within = omega (arith, e, ap length f ∙ length-append (refusedOf n) (drop (length (refusedOf n)) (replicate 12 newline)))
+
+  pub line-only : take k s ≡ refusedOf n
+  unfolding over
+  line-only =
+      ap (λ (j : ℕ). take j s) e ∙ ap (take (length (refusedOf n))) f ∙ take-append-seam (refusedOf n) (drop (length (refusedOf n)) (replicate 12 newline))
