@@ -1,12 +1,12 @@
 -- The line of a refusal: how it is made, its length of 10 bytes for a number of the table, and of 12 at most for any byte. Assumes nothing.
 use Prim.Native.Nat.{ℕ, zero, suc, _+_, _≤_, _<_}
 use native.Mathlib.Omega.{arith}
-use mathlib.Core.Path.{_≡_, refl, ap, sym, subst, _∙_}
+use mathlib.Core.Path.{_≡_, refl, ap, ap₂, sym, subst, _∙_}
 use mathlib.Core.Bool.{Bool, true, false, _&&_, cond}
 use mathlib.Core.List.{List, [], _∷_, _++_, append-nil, append-assoc}
 use lib.Dec.{T, ltb, ltb→lt}
 use lib.Ieee.Fits.{and-l, and-r}
-use lib.ListN.{length, take, drop, replicate, length-append}
+use lib.ListN.{length, take, drop, length-append}
 use lib.Seq.{take-append-seam}
 use borrow.Rule.Slice.PartMut.{putMid}
 use Rattle.answer.specs.Refusals.{Check, refusalOf}
@@ -53,8 +53,8 @@ newlines = newline ∷ newline ∷ newline ∷ newline ∷ []
 abbrev begun : List ℕ
 begun = refusedWord ++ (space ∷ newlines)
 
--- the newlines behind the digits are the line's own, and what stands behind it
-left : (k : ℕ) → k ≤ 3 → drop k newlines ≡ newline ∷ drop (9 + k) (replicate 12 newline)
+-- the first of the newlines behind the digits is the line's own
+left : (k : ℕ) → k ≤ 3 → drop k newlines ≡ newline ∷ drop k (newline ∷ newline ∷ newline ∷ [])
 left zero h = refl
 left (suc zero) h = refl
 left (suc (suc zero)) h = refl
@@ -68,26 +68,22 @@ module _ (n : ℕ) (h : n < 256) {ys : List ℕ} {k : ℕ} (f : Fits (decimalOf 
   pub few-digits : k ≤ 3
   few-digits = omega (arith, digits-put .count, three n (omega arith))
 
-  pub line-count : 9 + k ≡ length (refusedOf n)
-  line-count = omega (arith, digits-put .count, long n)
+  abbrev behind : List ℕ
+  behind = drop (length (decimalOf n)) (newline ∷ newline ∷ newline ∷ [])
 
-  pub makes-line : putMid 8 4 begun ys ≡ over (refusedOf n) (replicate 12 newline)
+  made : putMid 8 4 begun ys ≡ refusedOf n ++ behind
   unfolding refusedOf over
-  makes-line =
+  made =
       let d = decimalOf n in
-      let behind : List ℕ → List ℕ = λ x. (refusedWord ++ (space ∷ [])) ++ x in
-      let size : length (refusedOf n) ≡ 9 + length d = long n in
-      ap behind (append-nil ys ∙ digits-put .holds ∙ ap (λ (x : List ℕ). d ++ x) (left (length d) (three n (omega arith))))
-      ∙ ap (λ (j : ℕ). behind (d ++ (newline ∷ drop j (replicate 12 newline)))) (sym size)
-      ∙ sym (ap behind (append-assoc d (newline ∷ []) (drop (length (refusedOf n)) (replicate 12 newline))))
+      let front : List ℕ → List ℕ = λ x. (refusedWord ++ (space ∷ [])) ++ x in
+      ap front (append-nil ys ∙ digits-put .holds ∙ ap (λ (x : List ℕ). d ++ x) (left (length d) (three n (omega arith))))
+      ∙ sym (ap front (append-assoc d (newline ∷ []) behind))
 
--- its bytes by themselves
-module _ (n k : ℕ) (s : List ℕ) (e : k ≡ length (refusedOf n)) (f : s ≡ over (refusedOf n) (replicate 12 newline)) where
-  pub line-within : k ≤ length s
-  unfolding over
-  line-within = omega (arith, e, ap length f ∙ length-append (refusedOf n) (drop (length (refusedOf n)) (replicate 12 newline)))
+  size : 9 + k ≡ length (refusedOf n)
+  size = omega (arith, digits-put .count, long n)
 
-  pub line-only : take k s ≡ refusedOf n
-  unfolding over
-  line-only =
-      ap (λ (j : ℕ). take j s) e ∙ ap (take (length (refusedOf n))) f ∙ take-append-seam (refusedOf n) (drop (length (refusedOf n)) (replicate 12 newline))
+  pub line-within : 9 + k ≤ length (putMid 8 4 begun ys)
+  line-within = omega (arith, size, ap length made ∙ length-append (refusedOf n) behind)
+
+  pub line-only : take (9 + k) (putMid 8 4 begun ys) ≡ refusedOf n
+  line-only = ap₂ (λ (j : ℕ) (x : List ℕ). take j x) size made ∙ take-append-seam (refusedOf n) behind

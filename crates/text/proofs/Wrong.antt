@@ -5,7 +5,7 @@ use mathlib.Core.Path.{_≡_, ap}
 use mathlib.Core.List.{List, [], _∷_, _++_}
 use lib.ListN.{getD, replicate}
 use Rattle.text.specs.Text.{space, newline, digitOf, wordOf, decimalOf, refusedWord, refusedOf}
-use Rattle.text.specs.Putting.{over, Fits, Lined}
+use Rattle.text.specs.Putting.{over, Fits}
 
 -- of 10: `0000000a`, lower case; of 1: `10000000`, the lowest digit first
 pub of-word
@@ -43,14 +43,4 @@ of-put-refused = (
   λ h. let z : _≡_ {A = ℕ} 49 52 = ap (λ (s : List ℕ). getD s 8 0) (h .holds) in omega arith,
   λ after h. let e = h .count in omega arith,
   λ after h. let e = h .count in omega arith,
-)
-
--- of 10: a line of ten bytes; of 4: `refused 1`
-pub of-refused-line
-    : ((s : List ℕ) → Lined (refusedOf 10) (record { text = s; n = 10 }) → ⊥)
-    × (Lined (refusedOf 4) (record { text = refusedWord ++ (space ∷ 49 ∷ newline ∷ newline ∷ newline ∷ []); n = 10 }) → ⊥)
-unfolding refusedOf decimalOf over
-of-refused-line = (
-  λ s h. let e = h .count in omega arith,
-  λ h. let z : _≡_ {A = ℕ} 49 52 = ap (λ (s : List ℕ). getD s 8 0) (h .holds) in omega arith,
 )

@@ -4,10 +4,8 @@ use mathlib.Core.Path.{_≡_}
 use mathlib.Core.Bool.{cond}
 use mathlib.Core.List.{List, _++_}
 use lib.Dec.{leb}
-use lib.ListN.{length, drop, replicate}
+use lib.ListN.{length, drop}
 use Rattle.answer.specs.Refusals.{Check, refusalOf, accepted}
-use Rattle.text.specs.declared.Line.{Line}
-use Rattle.text.specs.Text.{newline}
 
 -- the text, and after it what stood there before
 unfoldable pub over : List ℕ → List ℕ → List ℕ
@@ -22,11 +20,6 @@ pub record Puts (text old after : List ℕ) (n : ℕ) : Type 0 where
 pub record Fits (text old after : List ℕ) (n : ℕ) : Type 0 where
   pub count : n ≡ cond (leb (length text) (length old)) (length text) 0
   pub holds : after ≡ cond (leb (length text) (length old)) (over text old) old
-
--- a line by itself: the text, and newlines behind it
-pub record Lined (text : List ℕ) (r : Line) : Type 0 where
-  pub count : r .n ≡ length text
-  pub holds : r .text ≡ over text (replicate 12 newline)
 
 -- the state becomes `new` and the text is put over what the slice held; or where the checks refuse, all is as it was.
 -- What came back is the state, how many bytes are to be printed, and the refusal's number.

@@ -2,7 +2,7 @@
 ghost use mathlib.Core.Path.{_≡_};
 ghost use Prim.Native.Nat.{_%_};
 ghost use Rattle.text.specs.Text.{digitOf, wordOf, decimalOf, refusedOf};
-ghost use Rattle.text.specs.Putting.{Fits, Lined};
+ghost use Rattle.text.specs.Putting.{Fits};
 
 // The last hexadecimal digit of a number, upper case. A match is a table in memory, and takes fewer instructions than a test and a sum.
 fn digit(n: u32) -> u8
@@ -63,26 +63,11 @@ pub fn put_decimal(n: u64, out: &mut [u8]) -> usize
     put(&digits[..k], out)
 }
 
-// A refusal's line, and newlines behind it.
-pub struct Line {
-    pub text: [u8; 12],
-    pub n: usize,
-}
-
-// What the number's digits leave of the newlines ends the line.
-pub fn refused_line(number: u8) -> Line
-    ensures { λ r. ⌜ Lined (refusedOf number) r ⌝ }
-{
-    let mut text = *b"refused \n\n\n\n";
-    let k = put_decimal(number as u64, &mut text[8..]);
-    Line { text, n: 9 + k }
-}
-
+// The line of a refusal. What the number's digits leave of the newlines ends it.
 pub fn put_refused(number: u8, out: &mut [u8]) -> usize
     ensures { λ r. ⌜ Fits (refusedOf number) (now (out .entry)) (now (out .exit)) r ⌝ }
 {
-    let line = refused_line(number);
-    let text = line.text;
-    let n = line.n;
-    put(&text[..n], out)
+    let mut line = *b"refused \n\n\n\n";
+    let k = put_decimal(number as u64, &mut line[8..]);
+    put(&line[..9 + k], out)
 }
