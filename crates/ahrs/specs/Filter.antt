@@ -8,7 +8,6 @@ use Rattle.vector.specs.declared.Vector.{Vector}
 use Rattle.math.specs.declared.quaternion.Quaternion.{Quaternion}
 use Rattle.vector.specs.Vectors.{zeroVector, finiteVector, addOf, mulOf}
 use Rattle.math.specs.Quaternions as quaternion
-use Rattle.math.specs.Quaternions.{finiteQuaternion}
 use Rattle.settings.specs.declared.Settings.{Settings}
 use Rattle.settings.specs.declared.config.Config.{Config}
 use Rattle.step.specs.declared.Rejection.{Rejection}
@@ -23,7 +22,7 @@ use Rattle.ahrs.specs.declared.update.HalfFeedback.{HalfFeedback}
 
 unfoldable pub finiteState : Ahrs → Bool
 finiteState s =
-    finiteSettings (s .settings) && finiteConfig (s .config) && finiteQuaternion (s .quaternion) && finiteVector (s .accelerometer)
+    finiteSettings (s .settings) && finiteConfig (s .config) && quaternion.finiteQuaternion (s .quaternion) && finiteVector (s .accelerometer)
     && finite (s .«startup_gain») && finiteRejection (s .acceleration) && finiteRejection (s .magnetic)
 
 -- ---- states
