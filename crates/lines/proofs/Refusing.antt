@@ -10,7 +10,7 @@ use Rattle.lines.specs.declared.Line.{Line}
 use Rattle.lines.specs.declared.Fed.{Fed}
 use Rattle.lines.specs.Rule.{lineChecks}
 use Rattle.lines.specs.Feeding.{feedChecks, lastChecks}
-use Rattle.lines.specs.Exact.{ExactlyWhen, OnlyOne}
+use Rattle.lines.specs.Exact.{ExactlyWhen, Determined}
 
 pub exactly-when : ExactlyWhen
 unfolding ascends
@@ -29,5 +29,5 @@ same p q =
     let (line, n, refusal, holds) = fed-once _ _ _ _ _ _ _ _ _ _ _ _ _ _ p q in
     (λ i. record { line = line i; n = n i; refusal = refusal i }, holds)
 
-pub only-one : OnlyOne
-only-one = record { feed = λ l part old after also r s p q. same p q; last = λ l old after also r s p q. same p q }
+pub determined : Determined
+determined = record { feed = λ l part old after also r s p q. same p q; last = λ l old after also r s p q. same p q }

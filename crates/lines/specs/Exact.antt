@@ -13,6 +13,6 @@ pub record ExactlyWhen : Type 0 where
   pub last : (out : List ℕ) → Exactly (lastChecks out)
 
 -- two results that both satisfy the promise are the same, and leave the same in the lent slice
-pub record OnlyOne : Type 0 where
+pub record Determined : Type 0 where
   pub feed : (l : Line) (part old : List ℕ) → OneLent (PartFed l part old)
   pub last : (l : Line) (old : List ℕ) → OneLent (LastFed l old)

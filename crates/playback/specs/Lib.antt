@@ -1,5 +1,4 @@
-pub mod Rule
-pub mod Machine
+pub mod Printed
 pub mod Feeding
 pub mod Exact
 pub mod Inner

@@ -7,7 +7,7 @@ use lib.ListN.{length, drop, length-append, length-drop}
 use Rattle.answer.specs.Refusals.{Check, refusalOf, accepted}
 use Rattle.text.specs.Putting.{over, Puts, Feeds, FedOnce}
 
-longer : (text old : List ℕ) → length (over text old) ≡ length text + (length old - length text)
+pub longer : (text old : List ℕ) → length (over text old) ≡ length text + (length old - length text)
 unfolding over
 longer text old = length-append text (drop (length text) old) ∙ ap (λ (k : ℕ). length text + k) (length-drop (length text) old)
 

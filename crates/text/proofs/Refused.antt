@@ -1,15 +1,11 @@
 -- The line of a refusal: how it is made, its length of 10 bytes for a number of the table, and of 12 at most for any byte. Assumes nothing.
 use Prim.Native.Nat.{ℕ, zero, suc, _+_, _≤_, _<_}
 use native.Mathlib.Omega.{arith}
-use mathlib.Core.Path.{_≡_, refl, ap, ap₂, sym, subst, _∙_}
-use mathlib.Core.Bool.{Bool, true, false, _&&_, cond}
+use mathlib.Core.Path.{_≡_, refl, ap, ap₂, sym, _∙_}
 use mathlib.Core.List.{List, [], _∷_, _++_, append-nil, append-assoc}
-use lib.Dec.{T, ltb, ltb→lt}
-use lib.Ieee.Fits.{and-l, and-r}
 use lib.ListN.{length, take, drop, length-append}
 use lib.Seq.{take-append-seam}
 use borrow.Rule.Slice.PartMut.{putMid}
-use Rattle.answer.specs.Refusals.{Check, refusalOf}
 use Rattle.text.specs.Text.{space, newline, decimalOf, refusedWord, refusedOf}
 use Rattle.text.specs.Putting.{over, Puts, Fits}
 use Rattle.text.proofs.Putting.{fits-put}
@@ -24,25 +20,12 @@ long n = omega (arith, length-append (decimalOf n) (newline ∷ []))
 pub ten : (n : ℕ) → n < 10 → length (refusedOf n) ≡ 10
 ten n h = omega (arith, long n, one n h)
 
--- the numbers of some checks have one digit, so the number that they give has
-abbrev pub low : List Check → Bool
-low [] = true
-low (c ∷ cs) = ltb (c .number) 10 && low cs
-
-pub below-ten : (cs : List Check) → T (low cs) → {n : ℕ} → n ≡ refusalOf cs → n < 10
-unfolding refusalOf
-below-ten [] t e = omega arith
-below-ten (c ∷ cs) t {n} e =
-    subst (λ (k : ℕ). k < 10) (sym e)
-    (go (c .fails) (ltb→lt (c .number) 10 (and-l (ltb (c .number) 10) (low cs) t)) (below-ten cs (and-r (ltb (c .number) 10) (low cs) t) refl))
-  where
-    go : (b : Bool) → c .number < 10 → refusalOf cs < 10 → cond b (c .number) (refusalOf cs) < 10
-    go true h l = h
-    go false h l = l
-
--- so its line stands where there are ten bytes
+-- so its line stands where there are ten bytes, and that of any byte where there are twelve
 pub puts-low : (k : ℕ) (old : List ℕ) {after : List ℕ} {n : ℕ} → k < 10 → 10 ≤ length old → Fits (refusedOf k) old after n → Puts (refusedOf k) old after n
 puts-low k old h room f = fits-put (refusedOf k) old (omega (arith, ten k h)) f
+
+pub puts-byte : (k : ℕ) (old : List ℕ) {after : List ℕ} {n : ℕ} → k < 256 → 12 ≤ length old → Fits (refusedOf k) old after n → Puts (refusedOf k) old after n
+puts-byte k old h room f = fits-put (refusedOf k) old (omega (arith, long k, three k (omega arith))) f
 
 -- ---- how it is made
 

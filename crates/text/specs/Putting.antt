@@ -4,12 +4,16 @@ use mathlib.Core.Path.{_≡_}
 use mathlib.Core.Bool.{cond}
 use mathlib.Core.List.{List, _++_}
 use lib.Dec.{leb}
-use lib.ListN.{length, drop}
+use lib.ListN.{length, take, drop}
 use Rattle.answer.specs.Refusals.{Check, refusalOf, accepted}
 
 -- the text, and after it what stood there before
 unfoldable pub over : List ℕ → List ℕ → List ℕ
 over text old = text ++ drop (length text) old
+
+-- the text behind the first n bytes
+abbrev pub putAt : ℕ → List ℕ → List ℕ → List ℕ
+putAt n text old = take n old ++ over text (drop n old)
 
 -- the text stands at the start, and n is its length
 pub record Puts (text old after : List ℕ) (n : ℕ) : Type 0 where

@@ -1,33 +1,49 @@
 // Replays stored logs, each whole, byte by byte, and cut once at every place: prints its name and its lines, and whether they are
 // the same however it is cut. A log stands in the input behind a name of 32 bytes and its length, 16 bits.
-use playback::Playback;
+use course::Phase;
 ghost use Prim.Native.Nat.{_<_};
 ghost use lib.ListN.{length};
 
-// The state after some bytes, and how many they printed.
+// The phase after some bytes, how many of them are left, and how many they printed.
 struct Run {
-    playback: Playback,
+    phase: Phase,
+    left: usize,
     n: usize,
 }
 
 fn start() -> Run {
     Run {
-        playback: playback::fresh(),
+        phase: Phase::Header,
+        left: 0,
         n: 0,
     }
 }
 
-// Feeds some bytes, whose lines go behind those before.
-fn feed(run: Run, part: &[u8], out: &mut [u8]) -> Run {
+// Puts some bytes behind those that are left, where there is room; how many the buffer has then.
+fn join(left: usize, part: &[u8], buffer: &mut [u8]) -> usize {
+    if left > buffer.len() {
+        return 0;
+    }
+    if part.len() > buffer.len() - left {
+        return left;
+    }
+    bytes::copy(part, &mut buffer[left..]);
+    left + part.len()
+}
+
+// Feeds some bytes more, whose lines go behind those before.
+fn feed(run: Run, part: &[u8], buffer: &mut [u8], out: &mut [u8]) -> Run {
     let at = run.n;
-    let before = run.playback;
+    let before = run.phase;
     if at > out.len() {
         return run;
     }
-    let fed = playback::feed(before, part, &mut out[at..]);
-    let playback = fed.playback;
+    let n = join(run.left, part, buffer);
+    let fed = playback::feed(before, buffer, n, &mut out[at..]);
+    let phase = fed.phase;
     Run {
-        playback,
+        phase,
+        left: fed.left,
         n: at + fed.n,
     }
 }
@@ -35,29 +51,29 @@ fn feed(run: Run, part: &[u8], out: &mut [u8]) -> Run {
 // The end of the log: how many bytes were printed in all.
 fn end(run: Run, out: &mut [u8]) -> usize {
     let at = run.n;
-    let before = run.playback;
+    let phase = run.phase;
     if at > out.len() {
         return 0;
     }
-    let fed = playback::last(before, &mut out[at..]);
+    let fed = playback::last(phase, run.left, &mut out[at..]);
     at + fed.n
 }
 
 // The log read in two parts.
-fn cut_at(log: &[u8], cut: usize, out: &mut [u8]) -> usize {
+fn cut_at(log: &[u8], cut: usize, buffer: &mut [u8], out: &mut [u8]) -> usize {
     if cut > log.len() {
         return 0;
     }
-    let first = feed(start(), &log[..cut], out);
-    let second = feed(first, &log[cut..], out);
+    let first = feed(start(), &log[..cut], buffer, out);
+    let second = feed(first, &log[cut..], buffer, out);
     end(second, out)
 }
 
-fn byte_by_byte(log: &[u8], out: &mut [u8]) -> usize {
+fn byte_by_byte(log: &[u8], buffer: &mut [u8], out: &mut [u8]) -> usize {
     let mut run = start();
     let mut i = 0;
     while i < log.len() {
-        run = feed(run, &log[i..i + 1], out);
+        run = feed(run, &log[i..i + 1], buffer, out);
         i += 1;
     }
     end(run, out)
@@ -82,14 +98,14 @@ fn same(a: &[u8], b: &[u8], n: usize) -> bool {
 }
 
 // Whether the n bytes of lines come out again, wherever the log is cut.
-fn is_uncut(log: &[u8], lines: &[u8], n: usize, out: &mut [u8]) -> bool {
-    let m = byte_by_byte(log, out);
+fn is_uncut(log: &[u8], lines: &[u8], n: usize, buffer: &mut [u8], out: &mut [u8]) -> bool {
+    let m = byte_by_byte(log, buffer, out);
     if (m != n) | !same(lines, out, n) {
         return false;
     }
     let mut cut = 0;
     while cut < log.len() {
-        let m = cut_at(log, cut, out);
+        let m = cut_at(log, cut, buffer, out);
         if (m != n) | !same(lines, out, n) {
             return false;
         }
@@ -108,8 +124,9 @@ fn print(lines: &[u8], n: usize) -> bool {
 fn try_log(name: &[u8], log: &[u8]) -> bool {
     let mut lines = io::buffer();
     let mut out = io::buffer();
-    let n = cut_at(log, log.len(), &mut lines);
-    let uncut = is_uncut(log, &lines, n, &mut out);
+    let mut buffer = io::buffer();
+    let n = cut_at(log, log.len(), &mut buffer, &mut lines);
+    let uncut = is_uncut(log, &lines, n, &mut buffer, &mut out);
     print(name, 32)
         & print(b"\n", 1)
         & print(&lines, n)

@@ -7,14 +7,14 @@ use Rattle.trials.proofs.byte_by_byte.Statement.{statement}
 use Rattle.trials.proofs.byte_by_byte.Tie as tie
 
 abbrev Inv-loop : tie.InvT-loop
-Inv-loop log out₀ run₀ i₀ out run i = length out ≡ length out₀
+Inv-loop log buffer₀ out₀ run₀ i₀ buffer out run i = (length buffer ≡ length buffer₀) × (length out ≡ length out₀)
 
 abbrev μ-loop : tie.MeasureT-loop
-μ-loop log out₀ run₀ i₀ out run i = length log - i
+μ-loop log buffer₀ out₀ run₀ i₀ buffer out run i = length log - i
 
 pub byte-by-byte-spec : {M : Type 1} → statement M
 byte-by-byte-spec =
     tie.close
     (tie.spec Inv-loop μ-loop (λ c κs. search needs) (λ c. search needs) (λ c. search needs) (λ c. search needs) (λ c. search needs)
     (λ c. search needs) (λ c κs. search needs) (λ c. search needs) (λ c. search needs) (λ c. search needs) (λ c κs. search needs)
-    (λ c. search needs) (λ c. search needs))
+    (λ c. search needs) (λ c. search needs) (λ c. search needs))

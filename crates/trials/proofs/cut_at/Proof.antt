@@ -9,6 +9,6 @@ pub cut-at-spec : {M : Type 1} → statement M
 cut-at-spec =
     tie.close
     (tie.spec (λ c. search needs) (λ c κs. search needs)
-    (λ c. let s = c .before .before .before .before .before .args in sym (length-take-le (s .cut) (s .log .now) (c .before .before .if1 .left)))
+    (λ c. let s = c .before .before .before .before .before .before .args in sym (length-take-le (s .cut) (s .log .now) (c .before .before .if1 .left)))
     (λ c κs. search needs) (λ c. search needs) (λ c. search needs) (λ c. search needs) (λ c κs. search needs) (λ c κs. search needs) (λ c. search needs)
-    (λ c. search needs))
+    (λ c. search needs) (λ c. search needs))

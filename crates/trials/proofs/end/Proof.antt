@@ -6,7 +6,7 @@ use Rattle.trials.proofs.end.Statement.{statement}
 use Rattle.trials.proofs.end.Tie as tie
 
 add-result : tie.Need-add-result
-add-result c = let called = c .before .before .before .last in omega (arith, within _ _ _ _ _ (called .ensures) (called .kept .1 .0), called .kept .1 .0)
+add-result c = let called = c .before .before .before .last in omega (arith, within _ _ _ _ _ (called .ensures) (called .kept .1 .1 .0), called .kept .1 .1 .0)
 
 pub end-spec : {M : Type 1} → statement M
 end-spec =

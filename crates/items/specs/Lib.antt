@@ -1,0 +1,2 @@
+pub mod Items
+pub mod Keep
