@@ -1,4 +1,3 @@
 pub mod Printed
 pub mod Feeding
-pub mod Exact
 pub mod Inner

@@ -4,7 +4,7 @@ use native.Mathlib.Omega.{arith}
 use mathlib.Core.Path.{_≡_, ap}
 use mathlib.Core.List.{List, [], _∷_, _++_}
 use lib.ListN.{getD, replicate}
-use Rattle.text.specs.Text.{space, newline, digitOf, wordOf, decimalOf, refusedWord, refusedOf}
+use Rattle.text.specs.Text.{space, newline, digitOf, wordOf, pairOf, wordsOf, decimalOf, refusedWord, refusedOf}
 use Rattle.text.specs.Putting.{over, Fits}
 
 -- of 10: `0000000a`, lower case; of 1: `10000000`, the lowest digit first
@@ -16,6 +16,18 @@ of-word = (λ h. let z : _≡_ {A = ℕ} 97 65 = cc in omega arith, λ h. let z 
 
 abbrev blank : ℕ → List ℕ
 blank n = replicate n 0
+
+-- of 1, 2, 3, 4: in another order; where there is room for 35 bytes; no newline
+pub of-put-words
+    : (Fits (wordsOf 1 2 3 4) (blank 36) (wordsOf 4 3 2 1) 36 → ⊥)
+    × ((after : List ℕ) → Fits (wordsOf 1 2 3 4) (blank 35) after 35 → ⊥)
+    × (Fits (wordsOf 1 2 3 4) (blank 36) (pairOf 1 2 space ++ pairOf 3 4 space) 36 → ⊥)
+unfolding wordsOf pairOf wordOf digitOf over
+of-put-words = (
+  λ h. let z : _≡_ {A = ℕ} 52 49 = ap (λ (s : List ℕ). getD s 7 0) (h .holds) in omega arith,
+  λ after h. let e = h .count in omega arith,
+  λ h. let z : _≡_ {A = ℕ} 32 10 = ap (λ (s : List ℕ). getD s 35 0) (h .holds) in omega arith,
+)
 
 -- of 7: `07`, a zero in front; of 10: `0`, its last digit, `01`, and `1` where there is room for one
 pub of-put-decimal

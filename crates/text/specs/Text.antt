@@ -20,6 +20,14 @@ wordOf n =
     digitOf (n / 268435456 % 16) ∷ digitOf (n / 16777216 % 16) ∷ digitOf (n / 1048576 % 16) ∷ digitOf (n / 65536 % 16) ∷
     digitOf (n / 4096 % 16) ∷ digitOf (n / 256 % 16) ∷ digitOf (n / 16 % 16) ∷ digitOf (n % 16) ∷ []
 
+-- two words, a space between them, and what ends them
+unfoldable pub pairOf : ℕ → ℕ → ℕ → List ℕ
+pairOf a b end = wordOf a ++ (space ∷ wordOf b) ++ (end ∷ [])
+
+-- a line of four words, one space apart
+unfoldable pub wordsOf : ℕ → ℕ → ℕ → ℕ → List ℕ
+wordsOf a b c d = pairOf a b space ++ pairOf c d newline
+
 -- a number of at most k decimal digits, no zero in front
 abbrev pub decimalIn : ℕ → ℕ → List ℕ
 decimalIn zero n = []

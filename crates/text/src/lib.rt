@@ -1,4 +1,7 @@
 // What the programs print: a word as eight hexadecimal digits, a whole number in decimal, and the line of a refusal.
+mod words; // words.rt: a line of four words
+
+pub use words::put_words;
 ghost use mathlib.Core.Path.{_≡_};
 ghost use Prim.Native.Nat.{_%_};
 ghost use Rattle.text.specs.Text.{digitOf, wordOf, decimalOf, refusedOf};
