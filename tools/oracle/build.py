@@ -165,14 +165,20 @@ def proved(name):
     return built
 
 
+def toolchain():
+    """The Rattle toolchain's folder."""
+    if not shutil.which("rt"):
+        stop("the Rattle toolchain is missing: no command rt on the path")
+    return pathlib.Path(quietly("rt", "doc", why="the Rattle toolchain does not answer: rt doc").strip()).parents[1]
+
+
 def program(name):
     """The command that runs a proved program: it is for x86-64, and the toolchain's emulator runs it elsewhere."""
     built = proved(name)
     machine = platform.machine()
     if machine == "x86_64":
         return [built]
-    guide = pathlib.Path(quietly("rt", "doc", why="the Rattle toolchain does not answer: rt doc").strip())
-    tools = guide.parents[1] / "on" / machine / "toolchain"
+    tools = toolchain() / "on" / machine / "toolchain"
     emulator = tools / "bin/qemu-x86_64"
     if not emulator.is_file():
         stop(f"the toolchain has no emulator for this machine, {machine}")

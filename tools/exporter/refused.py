@@ -1,0 +1,42 @@
+"""Edits of the crates' text that the export must refuse: what is wrong, the file below crates/, what stands there, and what then does.
+An edit without a place is a file by itself."""
+
+FLOAT, BODY = "number/src/float.rt", "    let d = x - x;"
+
+EDITS = [
+    ("a public function that asks something", "root/src/lib.rt", "fn root_bits", "pub fn root_bits"),
+    ("a macro", FLOAT, BODY, f"    assert!(x == x);\n{BODY}"),
+    ("a macro by another bracket", FLOAT, BODY, "    let d = todo! { };"),
+    ("unsafe", FLOAT, BODY, f"    unsafe {{ }}\n{BODY}"),
+    ("a closure", FLOAT, BODY, "    let d = (|y: f32| y - y)(x);"),
+    ("an attribute", FLOAT, "pub fn fabsf", "#[inline]\npub fn fabsf"),
+    ("a trait", "answer/src/lib.rt", "impl Answer {", "trait T {}\nimpl Answer {"),
+    ("a type of another name", "answer/src/lib.rt", "impl Answer {", "type A = Answer;\nimpl Answer {"),
+    ("a ghost field", "rejection/src/lib.rt", "    pub trigger: i32,", "    pub trigger: i32,\n    ghost g: Nat,"),
+    ("a loop over a range", "remap/src/names.rt", "    let mut k = 0;\n    while k < 6 {\n        name[k]", "    for k in 0..6 {\n        name[k]"),
+    ("a range outside an index", FLOAT, BODY, "    let d = 0..1;"),
+    ("a method of a built-in type", "root/src/lib.rt", "u32::leading_zeros(b) - 8", "b.leading_zeros() - 8"),
+    ("another function of a built-in type", "root/src/lib.rt", "134 - u32::leading_zeros(b)", "134 - u32::trailing_zeros(b)"),
+    ("a constant that Rust has and Rattle need not", FLOAT, BODY, "    let d = x - f32::EPSILON;"),
+    ("another part of std", "number/src/whole.rt", "std::num::nearest_i32_to_f32(n)", "std::mem::nearest_i32_to_f32(n)"),
+    ("a function that the library has not", "number/src/whole.rt", "std::num::nearest_i32_to_f32(n)", "std::num::nearest(n)"),
+    ("a path from the crate's root", FLOAT, BODY, f"    crate::float::fabsf(x);\n{BODY}"),
+    ("a clause outside a signature", FLOAT, BODY, f"{BODY}\n    ensures {{ x }}"),
+    ("a clause without its end", FLOAT, "ensures { λ r. ⌜ r ≡ finite x ⌝ }", "ensures { λ r. ⌜ r ≡ finite x ⌝"),
+    ("a letter beyond ASCII", FLOAT, BODY, "    let δ = x - x;"),
+    ("a text", "text/src/lib.rt", "*b\"refused \\n\\n\\n\\n\"", "\"refused\""),
+    ("an escape that is not known", "text/src/lib.rt", "*b\"refused \\n\\n\\n\\n\"", "*b\"refused \\t\\n\\n\\n\""),
+    ("an exponent", "settings/src/config.rt", "INITIAL_STARTUP_GAIN: f32 = 10.0", "INITIAL_STARTUP_GAIN: f32 = 1e1"),
+    ("a number in base two", "settings/src/config.rt", "INITIAL_STARTUP_GAIN: f32 = 10.0", "INITIAL_STARTUP_GAIN: f32 = 0b1"),
+    ("a lifetime", "log/src/record.rt", "pub fn body(bytes: &[u8]", "pub fn body<'a>(bytes: &'a [u8]"),
+    ("a tabulator", FLOAT, BODY, "\tlet d = x - x;"),
+    ("extern", "text/src/lib.rt", "pub fn word", "extern fn word"),
+    ("an and that stops early", "vector/src/lib.rt", "(self.x == 0.0) & (self.y == 0.0)", "(self.x == 0.0) && (self.y == 0.0)"),
+    ("a product assigned", "number/src/whole.rt", "    saturated(a as i64 + b as i64)", "    let mut a = a;\n    a *= b;\n    saturated(a as i64)"),
+    ("a shift assigned", "number/src/whole.rt", "    saturated(a as i64 + b as i64)", "    let mut a = a;\n    a <<= b;\n    saturated(a as i64)"),
+    ("a name of the prelude", "answer/src/lib.rt", "Answer::Refused(n) => n,", "Some(n) => n,"),
+    ("a comment within a line", FLOAT, BODY, "    /* */ let d = x - x;"),
+    ("a file without its first comment", "rejection/src/lib.rt", "// The two counts", "\n// The two counts"),
+    ("a module named as a crate", "number/src/wire.rt", None, "// A file.\n"),
+    ("a crate that is not exported", "../crates.txt", "\nlog: settings", "\nlog: verdict settings"),
+]
