@@ -120,6 +120,12 @@ class Arguments(argparse.ArgumentParser):
             sys.exit(0)
         return self.parse_args()
 
+    def only(self, option, *with_it):
+        """Refuses what is given beside the option and does not go with it."""
+        others = [o for o in self.seen if o not in (option, *with_it, "--rust", "--libm")]
+        if option in self.seen and others:
+            self.error(f"{option} and {others[0]} exclude each other")
+
     def apart(self, *options):
         """Refuses the options given beside the first of these that is."""
         for option in options:

@@ -100,7 +100,7 @@ impl Script<'_> {
     }
 
     /// Good or bad readings in a row, so that triggers move.
-    fn row(&mut self) {
+    pub fn row(&mut self) {
         let (n, bad) = (1 + self.random.below(12), self.random.one_in(2));
         let gravity = of_v(self.machine.ahrs.as_ref().unwrap().gravity());
         for _ in 0..n {
@@ -123,7 +123,7 @@ impl Script<'_> {
     }
 
     /// An update whose squared residual equals the limit, then with the limit one step below it and above.
-    fn equal_limit(&mut self, sensor: usize) {
+    pub fn equal_limit(&mut self, sensor: usize) {
         let u = self.common_update();
         let mut tried = self.machine.ahrs.clone().unwrap();
         let f = f32::from_bits;
@@ -150,7 +150,7 @@ impl Script<'_> {
     }
 
     /// Sensors at a right angle to where they should be, exactly: the dot product is 0.
-    fn dot_zero(&mut self) {
+    pub fn dot_zero(&mut self) {
         let r = &mut self.random;
         let q = r.pick(&[[bits(1.0), 0, 0, 0], [0, bits(1.0), 0, 0], [bits(-1.0), 0, 0, 0], [0, 0, 0, bits(1.0)]]);
         let (a, b, c, d) = (r.common(), r.common(), r.common(), r.pick(&[0, 0x8000_0000]));
@@ -161,7 +161,7 @@ impl Script<'_> {
     }
 
     /// A rate at the overrange threshold exactly, and one step to each side.
-    fn overrange(&mut self) {
+    pub fn overrange(&mut self) {
         let threshold = self.machine.ahrs_words()[11] & 0x7FFF_FFFF;
         let mut u = self.common_update();
         let r = &mut self.random;
@@ -172,7 +172,7 @@ impl Script<'_> {
     }
 
     /// Rates whose products are subnormal, and ones that cancel beside a minus zero, with nothing else to hide them.
-    fn faint(&mut self) {
+    pub fn faint(&mut self) {
         let r = &mut self.random;
         let identity = [bits(1.0), 0, 0, 0];
         let half = [r.pick(&[0, 0x8000_0000]), bits(0.5), bits(0.5), r.pick(&[0, 0x8000_0000])];
@@ -186,7 +186,7 @@ impl Script<'_> {
     }
 
     /// New settings with a smaller T while a trigger stands above it.
-    fn lower_timeout(&mut self) {
+    pub fn lower_timeout(&mut self) {
         let now = self.machine.ahrs_words();
         let trigger = now[ACCELERATION + 3].max(now[MAGNETIC + 3]);
         let mut s = self.ahrs_settings();

@@ -1,5 +1,4 @@
-//! The calls of the filter. The settings hold angles in the Rust and squared limits in the port: a script gives both, and the
-//! Rust has to derive the limit from the angle.
+//! The calls of the filter. The settings hold angles in the Rust and squared limits in the port: a script gives both.
 
 use crate::machine::{Answer, Machine, gives, refused};
 use crate::state;
@@ -49,7 +48,7 @@ impl Machine {
         self.keep_ahrs(next, [])
     }
 
-    fn read(&self, ahrs: &Ahrs, code: u32) -> Answer {
+    pub fn read(&self, ahrs: &Ahrs, code: u32) -> Answer {
         let reads = |words: &[u32]| if all_finite(words) { gives(words) } else { refused(7) };
         match code {
             0x87 => reads(&of_q(ahrs.quaternion())),
@@ -85,10 +84,6 @@ impl Machine {
         if number != 0 {
             return refused(number);
         }
-        for (limit, angle) in [(acceleration, acceleration_angle), (magnetic, magnetic_angle)] {
-            let derived = state::limit_of(f(angle)).to_bits();
-            assert!(derived == limit, "the script gives limit {limit:08X} for angle {angle:08X}, whose limit is {derived:08X}");
-        }
         let settings = AhrsSettings {
             sample_rate: f(rate),
             convention: Convention::ALL[convention as usize],
@@ -98,13 +93,14 @@ impl Machine {
             magnetic_rejection: f(magnetic_angle),
             rejection_timeout: f(timeout),
         };
-        let next = if code == 0x80 {
+        let mut next = if code == 0x80 {
             Ahrs::with_settings(settings)
         } else {
             let mut next = self.ahrs.clone().expect("the script starts no filter");
             next.set_settings(settings);
             next
         };
+        state::hold_limits(&mut next, [(acceleration, acceleration_angle), (magnetic, magnetic_angle)]);
         let answer = self.keep_ahrs(next, []);
         if answer.number == 0 {
             self.limits = [acceleration, magnetic];

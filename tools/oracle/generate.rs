@@ -1,21 +1,24 @@
 //! Scripts from a seed. The generator runs the calls that it makes, so that it can aim at the state: a limit equal to the
 //! squared residual, a rate equal to the overrange threshold, a T below the trigger.
 
-use crate::machine::Machine;
+use crate::machine::{Answer, Machine};
 use crate::random::Random;
 use crate::record::{CALLS, QUIET, Record, record};
 use crate::state;
 use crate::words::packed;
 
-/// A script in the making. One call in `quiet` prints its state.
+/// A script in the making. Each call is handed on with the Rust's answer to it; one call in `quiet` prints its state.
 pub struct Script<'a> {
     pub random: Random,
     pub machine: Machine,
-    pub out: &'a mut dyn FnMut(&Record),
+    pub out: &'a mut dyn FnMut(&Record, &Answer, &Machine),
     pub quiet: u64,
     pub left: u64,
-    /// Updates refused with 7 since the last accepted one.
+    /// Updates refused with 7 since the last accepted one, and after how many the quaternion is set anew.
     pub stuck: u32,
+    pub patience: u32,
+    /// Startup is skipped after one update in so many; never by itself where this is 0.
+    pub haste: u64,
 }
 
 pub fn bits(x: f64) -> u32 {
@@ -35,22 +38,35 @@ impl Script<'_> {
         if self.quiet > 1 && !self.random.one_in(self.quiet) {
             r[0] |= QUIET;
         }
-        (self.out)(&r);
-        let number = self.machine.call(&r).number;
+        let answer = self.machine.call(&r);
+        (self.out)(&r, &answer, &self.machine);
         if r[0] & 0xFF == 0x86 {
-            // A quaternion of zero or of huge size refuses every update: leave it after a few.
-            self.stuck = if number == 7 { self.stuck + 1 } else { 0 };
-            if self.stuck == 4 {
-                self.put(0x85, &[bits(1.0), 0, 0, 0]);
-            }
+            self.leave(answer.number);
         }
-        number
+        answer.number
+    }
+
+    /// After an update: leaves what would take up the script.
+    fn leave(&mut self, number: u32) {
+        // A quaternion of zero or of huge size refuses every update: leave it after a few.
+        self.stuck = if number == 7 { self.stuck + 1 } else { 0 };
+        if self.stuck == self.patience {
+            self.put(0x85, &[bits(1.0), 0, 0, 0]);
+        }
+        let startup = |machine: &Machine| machine.ahrs.as_ref().unwrap().flags().startup;
+        if self.haste > 0 && startup(&self.machine) && self.random.one_in(self.haste) {
+            self.put(0x84, &[]);
+        }
+    }
+
+    /// Every script starts both sides, so that any later call has a state.
+    pub fn begin(&mut self) {
+        self.put(0x60, &[bits(100.0), bits(3.0), bits(3.0), bits(0.02)]);
+        self.put(0x80, &[bits(100.0), 0, bits(0.5), 0, f32::MAX.to_bits(), f32::MAX.to_bits(), 0, 0, 0]);
     }
 
     pub fn make(&mut self, mode: &str) {
-        // Every script starts both sides, so that any later call has a state.
-        self.put(0x60, &[bits(100.0), bits(3.0), bits(3.0), bits(0.02)]);
-        self.put(0x80, &[bits(100.0), 0, bits(0.5), 0, f32::MAX.to_bits(), f32::MAX.to_bits(), 0, 0, 0]);
+        self.begin();
         match mode {
             "mounting" => self.mountings(),
             "sample" => self.sample(),
@@ -93,7 +109,7 @@ impl Script<'_> {
         }
     }
 
-    fn math(&mut self) {
+    pub fn math(&mut self) {
         let calls: Vec<_> = CALLS.iter().filter(|c| c.0 < 0x50).collect();
         let (code, _, kinds) = *self.random.pick(&calls);
         let r = &mut self.random;
@@ -132,7 +148,7 @@ impl Script<'_> {
         }
     }
 
-    fn mounting(&mut self) {
+    pub fn mounting(&mut self) {
         let r = &mut self.random;
         let number = if r.one_in(16) { r.any() } else { r.below(26) as u32 };
         match r.below(8) {
@@ -206,7 +222,7 @@ impl Script<'_> {
         [rate, threshold, period, cutoff]
     }
 
-    fn bias(&mut self) {
+    pub fn bias(&mut self) {
         let settings = self.bias_settings();
         let code = if self.random.one_in(3) { 0x60 } else { 0x61 };
         self.put(code, &settings);
@@ -326,7 +342,7 @@ impl Script<'_> {
     }
 
     /// One call of any kind with bits changed at random. A limit that is to be accepted has to be one of the Rust's.
-    fn fuzz(&mut self) {
+    pub fn fuzz(&mut self) {
         let r = &mut self.random;
         let (code, _, kinds) = *r.pick(&CALLS.iter().filter(|c| !matches!(c.0, 0x53..=0x55 | 0x68 | 0x69)).collect::<Vec<_>>());
         if code == 0x80 || code == 0x81 {

@@ -11,6 +11,8 @@ mod plain;
 mod random;
 mod record;
 mod recording;
+#[path = "closed.rs"]
+mod rust;
 mod state;
 mod walk;
 mod words;
@@ -46,10 +48,12 @@ fn make(args: &[String], out: &mut impl Write) {
     let mut script = generate::Script {
         random: random::Random(number(args, 2).expect("SEED")),
         machine: machine::Machine::default(),
-        out: &mut |r| out.write_all(&record::to_bytes(r)).expect("written"),
+        out: &mut |r, _, _| out.write_all(&record::to_bytes(r)).expect("written"),
         quiet: number(args, 4).unwrap_or(1),
         left: number(args, 3).expect("COUNT"),
         stuck: 0,
+        patience: 4,
+        haste: 0,
     };
     script.make(&args[1]);
 }

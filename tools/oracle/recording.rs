@@ -3,9 +3,9 @@
 
 use crate::generate::{Script, bits};
 use crate::log::{HEADER, MARK, RECORD};
-use crate::machine::Machine;
+use crate::machine::{Answer, Machine};
 use crate::random::Random;
-use crate::record::record;
+use crate::record::{Record, record};
 use crate::state;
 use crate::walk::Walk;
 use crate::words::f;
@@ -33,7 +33,9 @@ const DAMAGES: [Damage; 12] =
 const NOT_FINITE: [u32; 6] = [0x7FC0_0000, 0x7F80_0000, 0xFF80_0000, 0xFFC0_0000, 0x7F80_0001, 0xFFFF_FFFF];
 
 pub fn make(seed: u64, count: u64) -> Vec<u8> {
-    let mut script = Script { random: Random(seed), machine: Machine::default(), out: &mut |_| (), quiet: 1, left: 0, stuck: 0 };
+    let out = &mut |_: &Record, _: &Answer, _: &Machine| ();
+    let mut script =
+        Script { random: Random(seed), machine: Machine::default(), out, quiet: 1, left: 0, stuck: 0, patience: 4, haste: 0 };
     let settings = accepted_settings(&mut script);
     let Script { mut random, mut machine, .. } = script;
     let r = &mut random;

@@ -1,0 +1,74 @@
+//! What the calls of a native run are: the scripts' own modes, the hardest cases more often, and limits that no angle gives.
+
+use crate::generate::{Script, bits};
+use crate::state::{ACCELERATION, MAGNETIC};
+
+impl Script<'_> {
+    /// Some hundred updates under settings of their own.
+    pub fn updates(&mut self) {
+        match self.random.below(8) {
+            0..=3 => self.pole(),
+            4 => self.any_limits(),
+            5 => self.any_readings(),
+            6 => self.edge(),
+            _ => (0..40).for_each(|_| self.hard()),
+        }
+    }
+
+    /// At a limit, at the overrange product, at a right angle, T below a trigger, and one step beside each.
+    fn hard(&mut self) {
+        match self.random.below(8) {
+            0 | 1 => self.equal_limit(ACCELERATION),
+            2 | 3 => self.equal_limit(MAGNETIC),
+            4 => self.dot_zero(),
+            5 => self.lower_timeout(),
+            6 => self.faint(),
+            _ => self.over(),
+        }
+    }
+
+    /// Rates about the overrange product, under settings that have one.
+    fn over(&mut self) {
+        let mut s = self.ahrs_settings();
+        s[3] = bits(self.random.pick(&[2000.0, 500.0, 300.0, 100.0]));
+        self.put(0x81, &s);
+        for _ in 0..8 {
+            self.overrange();
+        }
+    }
+
+    /// Calls of every other kind.
+    pub fn others(&mut self) {
+        match self.random.below(3) {
+            0 => self.mounting(),
+            1 => self.fuzz(),
+            _ => self.math(),
+        }
+    }
+
+    /// Limits of any size, about the largest that a residual can have, and zeros, under which a pole is carried on.
+    fn any_limits(&mut self) {
+        let mut s = self.ahrs_settings();
+        let r = &mut self.random;
+        for limit in &mut s[4..6] {
+            *limit = match r.below(4) {
+                0 => r.pick(&[0, 0x8000_0000, 1, bits(0.25), bits(0.5), bits(1.0), f32::MAX.to_bits()]),
+                1 => r.float() & 0x7FFF_FFFF,
+                _ => bits(0.3 * r.unit()),
+            };
+        }
+        s[0] = bits(100.0);
+        self.put(0x81, &s);
+        for _ in 0..20 {
+            self.row();
+        }
+    }
+
+    /// Readings of any size, each finite.
+    fn any_readings(&mut self) {
+        for _ in 0..self.random.below(40) {
+            let u = [0; 9].map(|_: u32| self.random.float());
+            self.put(0x86, &u);
+        }
+    }
+}

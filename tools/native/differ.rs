@@ -1,0 +1,98 @@
+//! Every call on both sides: the answers, the whole states after it, and one call that reads them, must be the same words.
+
+use crate::closed;
+use crate::machine::{Answer, Machine, Side, side};
+use crate::port::{self, Port};
+use crate::record::{QUIET, Record, to_text};
+use crate::rust;
+use crate::tally::Tally;
+use crate::words::of_v;
+
+/// The first call that differs ends the run.
+pub fn differs(what: &str, call: &str, theirs: &[u32], ours: &[u32]) -> ! {
+    let words = |w: &[u32]| w.iter().map(|w| format!(" {w:08X}")).collect::<String>();
+    println!("{what} differs\n  call    {call}\n  Rust   {}\n  port   {}", words(theirs), words(ours));
+    std::process::exit(1)
+}
+
+#[derive(Default)]
+pub struct Differ {
+    port: Port,
+    pub tally: Tally,
+    /// The states before the next call.
+    ahrs: Option<[u32; 37]>,
+    bias: [u32; 10],
+}
+
+impl Differ {
+    pub fn call(&mut self, r: &Record, answer: &Answer, machine: &Machine) {
+        let ours = self.port.call(r);
+        same_answer("the answer", r, answer, &ours);
+        match side(r[0] & !QUIET) {
+            Side::None => self.tally.plain += 1,
+            Side::Bias => self.estimator(r, answer.number, machine),
+            Side::Ahrs => self.filter(r, answer.number, machine),
+        }
+    }
+
+    fn filter(&mut self, r: &Record, number: u32, machine: &Machine) {
+        let (Some(theirs), Some(ours)) = (&machine.ahrs, self.port.ahrs) else {
+            assert!(machine.ahrs.is_none() && self.port.ahrs.is_none(), "one side alone has started");
+            return;
+        };
+        let after = machine.ahrs_words();
+        let words = port::of_ahrs(&ours);
+        if after != words {
+            differs("the state after a call", &to_text(r), &after, &words);
+        }
+        if let (0x86, Some(before)) = (r[0], self.ahrs) {
+            self.tally.update(r, number, &before, &after);
+            let code = 0x87 + (self.tally.updates % 8) as u32;
+            same_answer("what is read after it", r, &machine.read(theirs, code), &port::read(ours, code));
+            self.tally.reads += 1;
+            if self.tally.updates % 5003 == 0 {
+                assert!(closed::of_ahrs(theirs) == rust::of_ahrs(theirs), "the Rust's fields and its Debug text differ");
+                self.tally.texts += 1;
+            }
+        } else {
+            self.tally.changes += 1;
+        }
+        self.ahrs = Some(after);
+    }
+
+    fn estimator(&mut self, r: &Record, number: u32, machine: &Machine) {
+        let (Some(theirs), Some(ours)) = (&machine.bias, self.port.bias) else {
+            assert!(machine.bias.is_none() && self.port.bias.is_none(), "one side alone has started");
+            return;
+        };
+        let (after, words) = (rust::of_bias(theirs), port::of_bias(&ours));
+        if after != words {
+            differs("the state after a call", &to_text(r), &after, &words);
+        }
+        if r[0] == 0x62 {
+            self.tally.reading(r, number, &self.bias, &after);
+            let (code, read) = match self.tally.readings % 2 {
+                0 => (0x63, of_v(theirs.offset()).to_vec()),
+                _ => (0x66, vec![theirs.is_active() as u32]),
+            };
+            same_answer("what is read after it", r, &Answer { number: 0, words: read }, &port::read_bias(ours, code, &[]));
+            self.tally.reads += 1;
+            if self.tally.readings % 5003 == 0 {
+                assert!(closed::of_bias(theirs) == after, "the Rust's fields and its Debug text differ");
+                self.tally.texts += 1;
+            }
+        } else {
+            self.tally.bias_changes += 1;
+            self.tally.written += u64::from(r[0] == 0x68 && number == 0);
+            self.tally.restored += u64::from(r[0] == 0x69 && number == 0);
+        }
+        self.bias = after;
+    }
+}
+
+fn same_answer(what: &str, r: &Record, theirs: &Answer, ours: &Answer) {
+    let numbered = |a: &Answer| [&[a.number], &a.words[..]].concat();
+    if theirs.number != ours.number || theirs.words != ours.words {
+        differs(what, &to_text(r), &numbered(theirs), &numbered(ours));
+    }
+}

@@ -1,0 +1,128 @@
+//! The exported text beside the Rust, in one process. `native` with no argument says what it can do.
+
+mod aim;
+#[path = "../oracle/closed.rs"]
+#[allow(dead_code)]
+mod closed;
+mod differ;
+#[path = "../oracle/edge.rs"]
+mod edge;
+#[path = "../oracle/estimator.rs"]
+mod estimator;
+#[path = "../oracle/filter.rs"]
+mod filter;
+#[path = "../oracle/generate.rs"]
+mod generate;
+#[path = "../oracle/log.rs"]
+mod log;
+mod logs;
+#[path = "../oracle/machine.rs"]
+mod machine;
+mod patterns;
+#[path = "../oracle/plain.rs"]
+mod plain;
+mod plain_port;
+mod port;
+#[path = "../oracle/random.rs"]
+mod random;
+#[path = "../oracle/record.rs"]
+mod record;
+#[path = "../oracle/recording.rs"]
+mod recording;
+#[path = "opened.rs"]
+mod rust;
+#[path = "../oracle/state.rs"]
+mod state;
+mod tally;
+#[path = "../oracle/walk.rs"]
+mod walk;
+#[path = "../oracle/words.rs"]
+mod words;
+
+use std::cell::RefCell;
+use std::sync::Mutex;
+use std::sync::atomic::{AtomicU64, Ordering};
+use tally::Tally;
+
+const HELP: &str = "native run KIND SEED COUNT   calls on both sides, until there are COUNT of the kind
+native patterns              every pattern of 32 bits, by the root and the conversions
+
+KIND is updates, readings, records (of whole logs), or others (calls without a state, and calls of any kind).
+";
+
+/// A run is made in as many parts, each from a seed of its own, so that what it does is the same however many run at once.
+const PARTS: u64 = 16;
+
+type Step = fn(&mut generate::Script);
+type Count = fn(&Tally) -> u64;
+
+/// Calls from a seed, until there are so many of a kind.
+fn calls(seed: u64, count: u64, step: Step, done: Count) -> Tally {
+    let differ = RefCell::new(differ::Differ::default());
+    let mut script = generate::Script {
+        random: random::Random(seed),
+        machine: machine::Machine::default(),
+        out: &mut |r, answer, machine| differ.borrow_mut().call(r, answer, machine),
+        quiet: 1,
+        left: u64::MAX,
+        stuck: 0,
+        patience: 1,
+        haste: 40,
+    };
+    script.begin();
+    while done(&differ.borrow().tally) < count {
+        step(&mut script);
+    }
+    differ.into_inner().tally
+}
+
+fn part(kind: &str, seed: u64, count: u64) -> Tally {
+    match kind {
+        "updates" => calls(seed, count, |s| s.updates(), |t| t.updates),
+        "readings" => calls(seed, count, |s| s.bias(), |t| t.readings),
+        "others" => calls(seed, count, |s| s.others(), |t| t.plain),
+        "records" => logs::run(seed, count),
+        _ => panic!("no kind {kind}"),
+    }
+}
+
+/// Does every part once, on as many threads as there are processors.
+fn in_parts(each: impl Fn(u64) + Sync) {
+    let next = AtomicU64::new(0);
+    std::thread::scope(|scope| {
+        for _ in 0..std::thread::available_parallelism().map_or(1, usize::from) {
+            scope.spawn(|| {
+                while let n @ 0..PARTS = next.fetch_add(1, Ordering::Relaxed) {
+                    each(n);
+                }
+            });
+        }
+    });
+}
+
+fn run(kind: &str, seed: u64, count: u64) {
+    let sum = Mutex::new(Tally::default());
+    in_parts(|n| {
+        // The parts' seeds are far from those of the next run.
+        let own = random::Random(seed.wrapping_mul(0x1_0000_0001).wrapping_add(n)).next();
+        let tally = part(kind, own, count.div_ceil(PARTS));
+        sum.lock().expect("no other part has failed").add(&tally);
+    });
+    for (count, text) in sum.into_inner().expect("no part has failed").lines() {
+        println!("{count} {text}");
+    }
+}
+
+fn main() {
+    let args: Vec<String> = std::env::args().skip(1).collect();
+    let number = |i: usize| args.get(i).and_then(|s| s.parse().ok()).expect("a whole number");
+    match args.first().map(String::as_str) {
+        Some("run") => run(&args[1], number(2), number(3)),
+        Some("patterns") => {
+            let done = AtomicU64::new(0);
+            in_parts(|n| drop(done.fetch_add(patterns::run(n, PARTS), Ordering::Relaxed)));
+            println!("{} patterns of {}", done.into_inner(), patterns::TRIED);
+        }
+        _ => print!("{HELP}"),
+    }
+}

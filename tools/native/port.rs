@@ -1,0 +1,255 @@
+//! The exported text, called as a script says: what it answers, and the words of its states.
+
+use crate::machine::{Answer, gives, refused};
+use crate::plain_port::{arithmetic, mountings};
+use crate::record::{QUIET, Record};
+use crate::words::{bits, f, length, packed, unpacked};
+use gateweave::ahrs::read::{FlagsRead, QuaternionRead, SettingsRead, StatesRead, VectorRead};
+use gateweave::ahrs::{self, Ahrs, Settings};
+use gateweave::answer::Answer as Said;
+use gateweave::bias::reads::{ActiveRead, OffsetRead, SettingsRead as BiasSettingsRead};
+use gateweave::bias::{self, Bias, BiasSettings};
+use gateweave::math::{Quaternion, Vector};
+use gateweave::offset::{self, Offset};
+
+#[derive(Default)]
+pub struct Port {
+    pub ahrs: Option<Ahrs>,
+    pub bias: Option<Bias>,
+    /// Updates and readings so far: one in eight is of a state that is lent.
+    calls: u64,
+}
+
+pub fn vector(a: &[u32]) -> Vector {
+    Vector::new(f(a[0]), f(a[1]), f(a[2]))
+}
+
+pub fn quaternion(a: &[u32]) -> Quaternion {
+    Quaternion::new(f(a[0]), f(a[1]), f(a[2]), f(a[3]))
+}
+
+pub fn of_vector(v: Vector) -> [u32; 3] {
+    v.to_array().map(bits)
+}
+
+pub fn of_quaternion(q: Quaternion) -> [u32; 4] {
+    q.to_array().map(bits)
+}
+
+/// A number that no byte holds is refused like 255.
+pub fn choice(word: u32) -> u8 {
+    word.min(255) as u8
+}
+
+pub fn numbered(number: u8) -> Answer {
+    Answer { number: number.into(), words: Vec::new() }
+}
+
+pub fn said(answer: Said) -> Answer {
+    match answer {
+        Said::Rates(x, y, z) | Said::Turned(x, y, z) => gives([x, y, z].map(bits)),
+        Said::Oriented(w, x, y, z) => gives([w, x, y, z].map(bits)),
+        Said::Refused(n) => numbered(n),
+    }
+}
+
+fn settings(a: &[u32]) -> Settings {
+    Settings {
+        sample_rate: f(a[0]),
+        convention: choice(a[1]),
+        gain: f(a[2]),
+        gyroscope_range: f(a[3]),
+        acceleration_rejection_squared: f(a[4]),
+        magnetic_rejection_squared: f(a[5]),
+        rejection_timeout: f(a[6]),
+    }
+}
+
+fn of_settings(s: &Settings) -> [u32; 7] {
+    let [rate, gain, range, timeout] = [s.sample_rate, s.gain, s.gyroscope_range, s.rejection_timeout].map(bits);
+    let [acceleration, magnetic] = [s.acceleration_rejection_squared, s.magnetic_rejection_squared].map(bits);
+    [rate, s.convention.into(), gain, range, acceleration, magnetic, timeout]
+}
+
+pub fn of_ahrs(t: &Ahrs) -> [u32; 37] {
+    let c = &t.config;
+    let mut words = [0; 37];
+    words[..7].copy_from_slice(&of_settings(&t.settings));
+    words[7..10].copy_from_slice(&[c.sample_period, c.gain, c.startup_gain_rate].map(bits));
+    words[10] = c.overrange_enabled.into();
+    words[11..14].copy_from_slice(&[c.overrange_threshold, c.acceleration_rejection, c.magnetic_rejection].map(bits));
+    words[14] = c.rejection_timeout as u32;
+    words[15..19].copy_from_slice(&of_quaternion(t.quaternion));
+    words[19..22].copy_from_slice(&of_vector(t.accelerometer));
+    words[22..25].copy_from_slice(&[t.startup.into(), bits(t.startup_gain), t.overrange_recovery.into()]);
+    for (at, sensor) in [(25, &t.acceleration), (31, &t.magnetic)] {
+        words[at..at + 3].copy_from_slice(&of_vector(sensor.half_residual));
+        words[at + 3] = sensor.recovery_trigger as u32;
+        words[at + 4] = sensor.recovery_threshold as u32;
+        words[at + 5] = sensor.ignored.into();
+    }
+    words
+}
+
+pub fn of_bias(t: &Bias) -> [u32; 10] {
+    let s = &t.settings;
+    let [rate, threshold, period, cutoff] =
+        [s.sample_rate, s.stationary_threshold, s.stationary_period, s.cutoff_frequency].map(bits);
+    let [x, y, z] = of_vector(t.offset);
+    [rate, threshold, period, cutoff, bits(t.filter_coefficient), t.timeout, t.timer, x, y, z]
+}
+
+impl Port {
+    pub fn call(&mut self, r: &Record) -> Answer {
+        let (code, a) = (r[0] & !QUIET, &r[1..]);
+        match code {
+            0x10..=0x4F => gives(arithmetic(code, a)),
+            0x50..=0x5F => mountings(code, a),
+            0x60..=0x6F => self.bias(code, a),
+            _ => self.ahrs(code, a),
+        }
+    }
+
+    fn is_lent(&mut self) -> bool {
+        self.calls += 1;
+        self.calls.is_multiple_of(8)
+    }
+
+    fn ahrs(&mut self, code: u32, a: &[u32]) -> Answer {
+        if code == 0x80 {
+            return match Ahrs::with_settings(settings(a)) {
+                ahrs::Started::Fresh(fresh) => {
+                    self.ahrs = Some(fresh);
+                    numbered(0)
+                }
+                ahrs::Started::Refused(n) => numbered(n),
+            };
+        }
+        let state = self.ahrs.expect("the script starts no filter");
+        let change = match code {
+            0x81 => state.set_settings(settings(a)),
+            0x82 => state.set_sample_period(f(a[0])),
+            0x83 => state.restart(),
+            0x84 => state.skip_startup(),
+            0x85 => state.set_quaternion(quaternion(a)),
+            0x86 => return self.update(state, a),
+            _ => return read(state, code),
+        };
+        self.ahrs = Some(change.state);
+        numbered(change.number)
+    }
+
+    fn update(&mut self, mut state: Ahrs, a: &[u32]) -> Answer {
+        let (gyroscope, accelerometer, magnetometer) = (vector(a), vector(&a[3..]), vector(&a[6..]));
+        let answer = if self.is_lent() {
+            ahrs::update_lent(&mut state, gyroscope, accelerometer, magnetometer)
+        } else {
+            let reading = state.update(gyroscope, accelerometer, magnetometer);
+            state = reading.state;
+            reading.answer
+        };
+        self.ahrs = Some(state);
+        said(answer)
+    }
+
+    fn bias(&mut self, code: u32, a: &[u32]) -> Answer {
+        let settings = || BiasSettings {
+            sample_rate: f(a[0]),
+            stationary_threshold: f(a[1]),
+            stationary_period: f(a[2]),
+            cutoff_frequency: f(a[3]),
+        };
+        if code == 0x60 {
+            return match Bias::with_settings(settings()) {
+                bias::Started::Fresh(fresh) => {
+                    self.bias = Some(fresh);
+                    numbered(0)
+                }
+                bias::Started::Refused(n) => numbered(n),
+            };
+        }
+        let state = self.bias.expect("the script starts no estimator");
+        let change = match code {
+            0x61 => state.set_settings(settings()),
+            0x62 => return self.reading(state, vector(a)),
+            0x64 => state.set_offset(vector(a)),
+            0x65 => state.restart(),
+            0x69 => offset::restore(state, &unpacked(&a[2..], a[1]), choice(a[0])),
+            _ => return read_bias(state, code, a),
+        };
+        self.bias = Some(change.state);
+        numbered(change.number)
+    }
+
+    fn reading(&mut self, mut state: Bias, gyroscope: Vector) -> Answer {
+        let answer = if self.is_lent() {
+            bias::update_lent(&mut state, gyroscope)
+        } else {
+            let reading = state.update(gyroscope);
+            state = reading.state;
+            reading.answer
+        };
+        self.bias = Some(state);
+        said(answer)
+    }
+}
+
+/// What a call that only reads the filter says.
+pub fn read(state: Ahrs, code: u32) -> Answer {
+    let vector = |read| match read {
+        VectorRead::Read(v) => gives(of_vector(v)),
+        VectorRead::Refused(n) => numbered(n),
+    };
+    let states = |words: fn(ahrs::read::InternalStates) -> [u32; 2]| match state.internal_states() {
+        StatesRead::Read(s) => gives(words(s)),
+        StatesRead::Refused(n) => numbered(n),
+    };
+    match code {
+        0x87 => match state.quaternion() {
+            QuaternionRead::Read(q) => gives(of_quaternion(q)),
+            QuaternionRead::Refused(n) => numbered(n),
+        },
+        0x88 => vector(state.gravity()),
+        0x89 => vector(state.linear_acceleration()),
+        0x8A => vector(state.earth_acceleration()),
+        0x8B => match state.flags() {
+            FlagsRead::Read(s) => {
+                gives([s.startup, s.overrange_recovery, s.acceleration_recovery, s.magnetic_recovery].map(u32::from))
+            }
+            FlagsRead::Refused(n) => numbered(n),
+        },
+        0x8C => states(|s| [s.acceleration_recovery_trigger, s.magnetic_recovery_trigger].map(bits)),
+        0x8D => states(|s| [s.accelerometer_ignored, s.magnetometer_ignored].map(u32::from)),
+        0x8E => match state.settings() {
+            SettingsRead::Read(s) => gives(of_settings(&s)),
+            SettingsRead::Refused(n) => numbered(n),
+        },
+        _ => refused(1),
+    }
+}
+
+/// The same of the estimator.
+pub fn read_bias(state: Bias, code: u32, a: &[u32]) -> Answer {
+    match code {
+        0x63 => match state.offset() {
+            OffsetRead::Read(v) => gives(of_vector(v)),
+            OffsetRead::Refused(n) => numbered(n),
+        },
+        0x66 => match state.is_active() {
+            ActiveRead::Read(active) => gives([active as u32]),
+            ActiveRead::Refused(n) => numbered(n),
+        },
+        0x67 => match state.settings() {
+            BiasSettingsRead::Read(s) => {
+                gives([s.sample_rate, s.stationary_threshold, s.stationary_period, s.cutoff_frequency].map(bits))
+            }
+            BiasSettingsRead::Refused(n) => numbered(n),
+        },
+        0x68 => {
+            let mut buffer = vec![0x2A; length(a[1], 256)];
+            let number = offset::write_offset(Offset { mounting: choice(a[0]), vector: state.offset }, &mut buffer);
+            Answer { number: number.into(), words: packed(&buffer) }
+        }
+        _ => refused(1),
+    }
+}

@@ -1,0 +1,156 @@
+//! What a run reaches: how many calls of each kind, their answers, and the cases that are easily missed.
+
+use crate::record::Record;
+use crate::state::{ACCELERATION, LIMITS_USED, MAGNETIC, QUATERNION, TIMEOUT};
+use fusion_ahrs::Vector;
+
+/// A number for each line that is printed.
+macro_rules! tally {
+    ($($field:ident $text:literal,)*) => {
+        #[derive(Default)]
+        pub struct Tally {
+            $(pub $field: u64,)*
+        }
+
+        impl Tally {
+            pub fn add(&mut self, other: &Tally) {
+                $(self.$field += other.$field;)*
+            }
+
+            pub fn lines(&self) -> Vec<(u64, &'static str)> {
+                vec![$((self.$field, $text)),*]
+            }
+        }
+    };
+}
+
+tally! {
+    updates "updates",
+    accepted "updates accepted",
+    refused5 "updates refused 5",
+    refused7 "updates refused 7",
+    on_zero "updates on a quaternion of zero",
+    in_startup "updates in startup",
+    product "updates with a rate at the overrange product",
+    beside_product "updates with a rate one step beside it",
+    overrange "updates over range",
+    limit "updates with a squared residual at its limit",
+    beside_limit "updates with one a step beside it",
+    ignored "updates that ignore a sensor",
+    recovering "updates in recovery",
+    above "updates with a trigger above T",
+    zero_timeout "updates with T = 0",
+    most_timeout "updates with T = 2^31 - 1",
+    subnormal "updates to a quaternion with a subnormal part",
+    readings "readings",
+    readings_accepted "readings accepted",
+    readings_refused5 "readings refused 5",
+    readings_refused7 "readings refused 7",
+    still "readings with an axis at the threshold",
+    beside_still "readings with one a step beside it",
+    grown "readings that move the offset",
+    cleared "readings that clear the timer",
+    written "offset records written",
+    restored "offset records restored",
+    changes "other calls of the filter",
+    bias_changes "other calls of the estimator",
+    plain "calls without a state",
+    reads "reads beside an update or a reading",
+    texts "states held to their text too",
+    logs "logs",
+    whole_logs "logs accepted to their end",
+    logs1 "logs refused 1",
+    logs2 "logs refused 2",
+    logs3 "logs refused 3",
+    logs4 "logs refused 4",
+    logs5 "logs refused 5",
+    logs6 "logs refused 6",
+    logs7 "logs refused 7",
+    logs8 "logs refused 8",
+    records "records accepted",
+    parts "parts in which they were fed",
+}
+
+fn f(word: u32) -> f32 {
+    f32::from_bits(word)
+}
+
+/// Neighbours among the floats, or the same.
+fn steps(a: u32, b: u32) -> u32 {
+    (a & 0x7FFF_FFFF).abs_diff(b & 0x7FFF_FFFF)
+}
+
+impl Tally {
+    pub fn update(&mut self, r: &Record, number: u32, before: &[u32; 37], after: &[u32; 37]) {
+        self.updates += 1;
+        self.accepted += u64::from(number == 0);
+        self.refused5 += u64::from(number == 5);
+        self.refused7 += u64::from(number == 7);
+        self.on_zero += u64::from(before[QUATERNION..QUATERNION + 4].iter().all(|w| f(*w) == 0.0));
+        self.in_startup += u64::from(before[22] == 1);
+        self.zero_timeout += u64::from(before[TIMEOUT] == 0);
+        self.most_timeout += u64::from(before[TIMEOUT] == i32::MAX as u32);
+        if number == 0 {
+            self.rates(&r[1..4], before);
+            self.sensors(before, after);
+            let part = &after[QUATERNION..QUATERNION + 4];
+            self.subnormal += u64::from(part.iter().any(|w| f(*w).is_subnormal()));
+        }
+    }
+
+    fn rates(&mut self, gyroscope: &[u32], before: &[u32; 37]) {
+        let (enabled, product) = (before[10] == 1, before[11]);
+        let any = |holds: &dyn Fn(u32) -> bool| u64::from(enabled && gyroscope.iter().any(|w| holds(*w)));
+        self.product += any(&|w| steps(w, product) == 0);
+        self.beside_product += any(&|w| steps(w, product) == 1);
+        self.overrange += any(&|w| f(w).abs() > f(product));
+    }
+
+    fn sensors(&mut self, before: &[u32; 37], after: &[u32; 37]) {
+        let (mut ignored, mut recovering, mut above, mut nearest) = (false, false, false, u32::MAX);
+        for (sensor, limit) in [(ACCELERATION, LIMITS_USED), (MAGNETIC, LIMITS_USED + 1)] {
+            let trigger = |w: &[u32; 37]| w[sensor + 3] as i32;
+            let square = Vector::new(f(after[sensor]), f(after[sensor + 1]), f(after[sensor + 2])).norm_squared();
+            ignored |= after[sensor + 5] == 1;
+            recovering |= trigger(after) > after[sensor + 4] as i32;
+            above |= trigger(before) > before[TIMEOUT] as i32;
+            nearest = nearest.min(steps(square.to_bits(), after[limit]));
+        }
+        self.ignored += u64::from(ignored);
+        self.recovering += u64::from(recovering);
+        self.above += u64::from(above);
+        self.limit += u64::from(nearest == 0);
+        self.beside_limit += u64::from(nearest == 1);
+    }
+
+    pub fn log(&mut self, number: u32) {
+        self.logs += 1;
+        let ends = [
+            &mut self.whole_logs,
+            &mut self.logs1,
+            &mut self.logs2,
+            &mut self.logs3,
+            &mut self.logs4,
+            &mut self.logs5,
+            &mut self.logs6,
+            &mut self.logs7,
+            &mut self.logs8,
+        ];
+        *ends.into_iter().nth(number as usize).expect("a refusal's number") += 1;
+    }
+
+    pub fn reading(&mut self, r: &Record, number: u32, before: &[u32; 10], after: &[u32; 10]) {
+        self.readings += 1;
+        self.readings_accepted += u64::from(number == 0);
+        self.readings_refused5 += u64::from(number == 5);
+        self.readings_refused7 += u64::from(number == 7);
+        if number == 0 {
+            let corrected = |i: usize| (f(r[1 + i]) - f(before[7 + i])).to_bits();
+            let nearest = (0..3).map(|i| steps(corrected(i), before[1])).min().unwrap();
+            self.still += u64::from(nearest == 0);
+            self.beside_still += u64::from(nearest == 1);
+            self.grown += u64::from(before[7..] != after[7..]);
+            self.cleared += u64::from(before[6] > 0 && after[6] == 0);
+        }
+    }
+}
