@@ -30,6 +30,14 @@ def exported(folder):
     return project
 
 
+def change(path, old, new):
+    """Changes the one place of a file."""
+    text = path.read_text("utf-8")
+    if text.count(old) != 1:
+        command.stop(f"a place stands {text.count(old)} times in the exported {path.name}: {old.strip()}")
+    path.write_text(text.replace(old, new), "utf-8")
+
+
 def opened(text):
     """A file of the Rust with its types and their fields public: `pub ` is added, and nothing else."""
     lines, inside = [], False

@@ -165,38 +165,45 @@ def renamed(tokens, name, paths):
     return "".join(out), clauses
 
 
+def comment(out, pad):
+    """Makes the comment that ends here the doc comment of what follows."""
+    for i in range(len(out) - 1, -1, -1):
+        if not out[i].startswith(pad + "//"):
+            break
+        out[i] = out[i].replace("//", "///", 1)
+
+
+def contract(pad, clauses, commented):
+    """The clauses of a contract as lines of a doc comment, behind another or by themselves."""
+    parts = [part.strip() for clause in clauses for part in clause.split("\n")]
+    return [pad + "///"] * commented + [f"{pad}/// {part}" for part in ("```text", *parts, "```")]
+
+
 def documented(text, clauses, asks):
     """The lines with each comment above an item as its doc comment, and behind it the clauses of its contract; types are copied, as a
     value of Rattle is."""
-    out, item, own, clauses = [], None, [], iter(clauses)
+    out, clauses = [], iter(clauses)
+    # Of a function whose body has not begun: where its signature stands, whether it is public, and its clauses.
+    item, public, own = None, False, []
     for line in text.split("\n"):
         pad = " " * (len(line) - len(line.lstrip()))
+        if match := ITEM.match(line):
+            comment(out, pad)
+            item, public, own = len(out) if match[2] == "fn" else None, match[1] == "pub ", []
+            out += [pad + "#[derive(Clone, Copy, Debug)]"] * (match[2] in ("struct", "enum"))
         if line == "\0":
             if item is None:
                 raise Unknown("a clause outside a signature")
             own.append(next(clauses))
-            continue
-        if match := ITEM.match(line):
-            own, item = [], len(out) if match[2] == "fn" else None
-            for i in range(len(out) - 1, -1, -1):
-                if not out[i].startswith(pad + "//"):
-                    break
-                out[i] = out[i].replace("//", "///", 1)
-            if match[2] in ("struct", "enum"):
-                out.append(pad + "#[derive(Clone, Copy, Debug)]")
-            public = match[1] == "pub "
-        if line == pad + "{" and own:
-            if public and not asks and any(c.lstrip().startswith("requires") for c in own):
+        elif line == pad + "{" and own:
+            if public and not asks and any(clause.lstrip().startswith("requires") for clause in own):
                 raise Unknown("a public function that asks something of its caller")
-            lines = ["```text", *(part.strip() for c in own for part in c.split("\n")), "```"]
-            above = [pad + "///"] if item and out[item - 1].startswith(pad + "///") else []
-            out[item:item] = above + [f"{pad}/// {part}" for part in lines]
             out[-1] += " {"
-            own = []
+            out[item:item] = contract(pad, own, item > 0 and out[item - 1].startswith(pad + "///"))
+            item, own = None, []
         else:
             out.append(line)
-        if line.endswith("{"):
-            item = None
+            item = None if line.endswith("{") else item
     if own or next(clauses, None):
         raise Unknown("a signature without a body")
     return "\n".join(out)
@@ -297,9 +304,9 @@ class Project:
 
     def write(self, into):
         """Writes the crate."""
-        texts, wanted = dict(self.texts), self.wanted(self.texts.values())
-        texts |= {(name, "lib"): library(self.kit, name, names) for name, names in wanted.items()}
-        made = {crate if stem == "lib" else f"{crate}/{stem}": self.module(crate, stem, text) for (crate, stem), text in texts.items()}
+        made = {crate if stem == "lib" else f"{crate}/{stem}": self.module(crate, stem, text) for (crate, stem), text in self.texts.items()}
+        wanted = self.wanted(self.texts.values())
+        made |= {name: self.module(name, "lib", library(self.kit, name, names)) for name, names in wanted.items()}
         made["lib"] = LIB + "".join(f"{'' if c in KIT else 'pub '}mod {c};\n" for c in sorted([*self.crates, *wanted]))
         shutil.rmtree(into / "src", ignore_errors=True)
         for name, text in made.items():
