@@ -1,0 +1,144 @@
+"""`tools/bench` without options: x86-64 instructions a call of the Rust and of the proved loops of crates/cost, and a record of `replay`."""
+import pathlib
+import platform
+import shutil
+import subprocess
+import sys
+import time
+
+import build
+import command
+import counting
+import packages
+
+COUNTER = pathlib.Path(__file__).resolve().parent
+BENCH = packages.BENCH
+NATIVE = platform.machine() == "x86_64"
+# The bytes of a log's header and of a record.
+HEADER, RECORD = 30, 38
+# What each row counts, under which name the driver has it, and how many calls.
+ROWS = (("update", "update", 10000), ("bias reading", "reading", 10000), ("root", "root", 10000), ("run of 1000 vectors", "turn", 120))
+
+
+def compiler():
+    """A rustc for x86-64, with what its programs are linked by: the machine's own, or Debian's with the library of x86-64."""
+    return (["rustc"], []) if NATIVE else packages.compiler("x86_64")
+
+
+def archive(inlined):
+    """The folder of the port's loops, proved and compiled; inlined, without the file that keeps the calls functions."""
+    if not shutil.which("rt"):
+        command.stop("the Rattle toolchain is missing: no command rt on the path")
+    command.say(f"proving and compiling the port's loops{', inlined' if inlined else ''} ..")
+    top = build.TOP
+    if inlined:
+        top = BENCH / "without-once"
+        shutil.rmtree(top, ignore_errors=True)
+        top.mkdir(parents=True)
+        shutil.copy(build.TOP / "crates.txt", top)
+        shutil.copytree(build.TOP / "crates", top / "crates")
+        shutil.copytree(build.TOP / "target", top / "target", ignore=shutil.ignore_patterns("bench", "beside", "must-fail", "goals"))
+        (top / "crates/cost/src/once.rt").unlink()
+        lib = top / "crates/cost/src/lib.rt"
+        lib.write_text("".join(line for line in lib.read_text().splitlines(True) if not line.startswith("mod once;")))
+    build.quietly("rt", "staticlib", "cost", why="the port's loops are not proved", cwd=top)
+    return top / "target/staticlib"
+
+
+def driver(rustc, link, rust, libm, port, name):
+    """The driver over the Rust crate and one archive of the port's."""
+    def compiled(*args, why):
+        build.quietly(*rustc, "-O", "--cap-lints", "allow", "-L", BENCH, *args, why=why)
+
+    compiled("--edition", "2018", "--crate-type", "rlib", "--crate-name", "libm", "-o", BENCH / "liblibm.rlib", libm, why="libm does not compile")
+    compiled("--edition", "2024", "--crate-type", "rlib", "--crate-name", "fusion_ahrs", "--extern", f"libm={BENCH}/liblibm.rlib", "-o",
+             BENCH / "libfusion_ahrs.rlib", rust / "src/lib.rs", why="the Rust crate does not compile")
+    compiled(*link, "-L", port, "--edition", "2024", "--extern", f"libm={BENCH}/liblibm.rlib", "--extern",
+             f"fusion_ahrs={BENCH}/libfusion_ahrs.rlib", "-o", BENCH / name, COUNTER / "driver.rs", why="the driver does not compile")
+    return BENCH / name
+
+
+def run(words, bench, count):
+    """One run of the driver: its sum, its nanoseconds, and what was said beside it."""
+    done = subprocess.run([*map(str, words), bench, str(count)], capture_output=True, text=True)
+    if done.returncode:
+        command.stop(f"the driver ended with status {done.returncode}: {done.stderr.strip()}")
+    _, _, total, nanoseconds = done.stdout.split()
+    return total, float(nanoseconds), done.stderr
+
+
+def measured(counter, program, bench, count):
+    """Instructions a call, nanoseconds a call on x86-64, and the sum."""
+    total, _, twice = run([*counter, program], bench, 2 * count)
+    _, _, once = run([*counter, program], bench, count)
+    each = run([program], bench, 100 * count)[1] if NATIVE else None
+    return (counting.counted(twice) - counting.counted(once)) / count, each, total
+
+
+def row(counter, program, label, bench, count):
+    rust, port = (measured(counter, program, f"{side}-{bench}", count) for side in ("rust", "port"))
+    times = f" {rust[1]:9.1f} {port[1]:9.1f}" if NATIVE else ""
+    print(f"{label:28}{rust[0]:10.1f}{port[0]:10.1f}{port[0] / rust[0]:7.2f}{times}  {rust[2]}", flush=True)
+    if rust[2] != port[2]:
+        print(f"the sums differ: the Rust's {rust[2]}, the port's {port[2]}")
+        sys.exit(1)
+    return port[0]
+
+
+def log(records):
+    """A log of so many records: the sample's, over and over, numbered on."""
+    path = BENCH / f"{records}.imu"
+    sample = build.output(sys.executable, COUNTER.parent / "sample", why="tools/sample made nothing")
+    bodies = [sample[i + 2:i + RECORD] for i in range(HEADER, len(sample), RECORD)]
+    with open(path, "wb") as file:
+        file.write(sample[:HEADER])
+        for i in range(records):
+            file.write((i % 65536).to_bytes(2, "little") + bodies[i % len(bodies)])
+    return path
+
+
+def replayed(counter, update):
+    """Counts a record of the program `replay`, and on x86-64 times a million."""
+    def taken(records):
+        with open(log(records), "rb") as file:
+            done = subprocess.run([*map(str, [*counter, *replay])], stdin=file, stdout=subprocess.DEVNULL, stderr=subprocess.PIPE, text=True)
+        return counting.counted(done.stderr)
+
+    program = build.program("replay")
+    replay = program if NATIVE else program[1:]
+    each = (taken(12000) - taken(6000)) / 6000
+    print(f"replay, a record: {each:.1f} instructions, {each / update:.2f} times an update that is called", flush=True)
+    if NATIVE:
+        with open(log(1000000), "rb") as file:
+            began = time.monotonic()
+            subprocess.run(replay, stdin=file, stdout=subprocess.DEVNULL, check=True)
+        print(f"replay: {1e6 / (time.monotonic() - began):,.0f} records a second")
+
+
+def built(args):
+    """The counter, and the driver over the port's calls as functions of their own and inlined."""
+    BENCH.mkdir(parents=True, exist_ok=True)
+    rust = BENCH / "fusion-ahrs"
+    with build.alone():
+        build.laid_out(args.rust, rust)
+        libm = build.libm(args.libm)
+        (rustc, link), counter = compiler(), counting.emulator("x86_64")
+        called = driver(rustc, link, rust, libm, archive(False), "called")
+        inlined = driver(rustc, link, rust, libm, archive(True), "inlined")
+    return counter, called, inlined
+
+
+def main(args):
+    for needed in ("gcc", "clang") if not NATIVE else ("gcc", "rustc"):
+        if not shutil.which(needed):
+            command.stop(f"the command {needed} is missing")
+    counter, called, inlined = built(args)
+    print(f"{'':28}{'Rust':>10}{'port':>10}{'ratio':>7}{'   Rust ns   port ns' if NATIVE else ''}  sum")
+    counts = {}
+    for label, bench, count in ROWS:
+        if bench in ("update", "reading"):
+            counts[bench] = row(counter, called, f"{label}, called", bench, count)
+            row(counter, inlined, f"{label}, inlined", bench, count)
+        else:
+            row(counter, called, label, bench, count)
+    replayed(counter, counts["update"])
