@@ -1,0 +1,97 @@
+"""The driver native.rs over the exported text and the Rust, compiled for a processor, and the table of what is measured by it."""
+import collections
+import pathlib
+import subprocess
+import sys
+
+import build
+import command
+import native
+import packages
+
+COUNTER = pathlib.Path(__file__).resolve().parent
+LOG = packages.BENCH / "sample.imu"
+# A row: the driver that it is measured by, and the benches of the two sides. Where the port is alone, of the Rust's only the sum is taken.
+Row = collections.namedtuple("Row", "label driver rust port alone", defaults=(False,))
+ROWS = (Row("update, called", "called", "update", "update"),
+        Row("update, LTO", "lto", "update", "update"),
+        Row("update, called, processor's root", "called-processor", "update", "update"),
+        Row("update, LTO, processor's root", "lto-processor", "update", "update"),
+        Row("update_lent, called", "called", "update", "lent"),
+        Row("update_lent, LTO", "lto", "update", "lent"),
+        Row("bias reading, called", "called", "reading", "reading"),
+        Row("bias reading, LTO", "lto", "reading", "reading"),
+        Row("root, called", "called", "root", "root"),
+        Row("root, called, processor's root", "called-processor", "root", "root"),
+        Row("record of playback, called", "called", "update", "playback", True),
+        Row("record of playback, LTO", "lto", "update", "playback", True))
+
+
+def sources(args):
+    """The root files of the Rust, of libm and of the export, which is written here; and the sample's log beside them."""
+    packages.BENCH.mkdir(parents=True, exist_ok=True)
+    rust, export = packages.BENCH / "fusion-ahrs", packages.BENCH / "gateweave"
+    build.laid_out(args.rust, rust)
+    libm = build.libm(args.libm)
+    native.exported(export)
+    LOG.write_bytes(build.output(sys.executable, COUNTER.parent / "sample", why="tools/sample made nothing"))
+    return rust / "src/lib.rs", libm, export / "src/lib.rs"
+
+
+def library(rustc, name, edition, root, into, *options):
+    """A crate as a library in a folder, over the libraries that are there; the option by which others are compiled over it."""
+    file = into / f"lib{name}.rlib"
+    build.quietly(*rustc, "--cap-lints", "allow", "-Copt-level=3", "--edition", edition, "--crate-type", "rlib", "--crate-name", name, "-L", into,
+                  *options, "-o", file, root, why=f"{name} does not compile")
+    return "--extern", f"{name}={file}"
+
+
+def compiled(rustc, link, files, into):
+    """The four drivers: as cargo's release has it and with fat LTO, each over libm as it stands and with the processor's root in it."""
+    rust, libm, export = files
+    into.mkdir(parents=True, exist_ok=True)
+    command.say("compiling the exported text, the Rust and the driver ..")
+    port = library(rustc, "gateweave", "2024", export, into)
+    for root in ("", "-processor"):
+        folder = into / f"libm{root}"
+        folder.mkdir(exist_ok=True)
+        if root:
+            real = library(rustc, "real_libm", "2018", libm, folder)
+            given = library(rustc, "libm", "2024", COUNTER / "libm.rs", folder, *real)
+        else:
+            given = library(rustc, "libm", "2018", libm, folder)
+        theirs = library(rustc, "fusion_ahrs", "2024", rust, folder, *given)
+        for name, options in (("called", ()), ("lto", ("-Clto=fat", "-Ccodegen-units=1"))):
+            build.quietly(*rustc, *link, *options, "--cap-lints", "allow", "-Copt-level=3", "--edition", "2024", "-L", folder, *given, *theirs,
+                          *port, "-o", into / f"{name}{root}", COUNTER / "native.rs", why="the driver does not compile")
+    return into
+
+
+def benches():
+    """The benches of each driver, the two sides in turn."""
+    found = collections.defaultdict(dict)
+    for row in ROWS:
+        found[row.driver] |= {f"rust-{row.rust}": None, f"port-{row.port}": None}
+    return {driver: list(names) for driver, names in found.items()}
+
+
+def run(words, rounds, names):
+    """One run of a driver: by each bench's name its calls a round, their sum and a round's nanoseconds; and what was said beside."""
+    done = subprocess.run([*map(str, words), LOG, str(rounds), *names], capture_output=True, text=True)
+    if done.returncode:
+        command.stop(f"the driver ended with status {done.returncode}: {done.stderr.strip()}")
+    lines = (line.split() for line in done.stdout.splitlines())
+    return {name: (int(calls), total, int(taken)) for name, calls, total, taken in lines}, done.stderr
+
+
+def table(seen):
+    """Prints each row of what was seen: by a driver and a bench what a call took, and the sum. The status is 1 where two sums differ."""
+    print(f"{'':34}{'Rust':>10}{'port':>10}{'ratio':>7}  sum")
+    for row in ROWS:
+        (rust, theirs), (port, ours) = seen[row.driver][f"rust-{row.rust}"], seen[row.driver][f"port-{row.port}"]
+        beside = f"{'-':>10}{port:10.1f}{'-':>7}" if row.alone else f"{rust:10.1f}{port:10.1f}{port / rust:7.2f}"
+        print(f"{row.label:34}{beside}  {ours}", flush=True)
+        if theirs != ours:
+            print(f"the sums differ: the Rust's {theirs}, the port's {ours}")
+            return 1
+    return 0
