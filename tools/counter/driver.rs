@@ -111,5 +111,7 @@ fn main() {
         "port-turn" => port(port::port_turn, &log[..3000], count),
         other => panic!("no bench {other}"),
     };
-    println!("{} {} {:08X} {:.1}", arguments[1], count, sum, began.elapsed().as_nanos() as f64 / count as f64);
+    // A whole number of one length: what it takes to print is the same in every run that is counted.
+    let nanoseconds = began.elapsed().as_nanos() as u64;
+    println!("{} {count} {sum:08X} {nanoseconds:020}", arguments[1]);
 }

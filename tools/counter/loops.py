@@ -63,8 +63,8 @@ def run(words, bench, count):
     done = subprocess.run([*map(str, words), bench, str(count)], capture_output=True, text=True)
     if done.returncode:
         command.stop(f"the driver ended with status {done.returncode}: {done.stderr.strip()}")
-    _, _, total, nanoseconds = done.stdout.split()
-    return total, float(nanoseconds), done.stderr
+    _, calls, total, nanoseconds = done.stdout.split()
+    return total, int(nanoseconds) / int(calls), done.stderr
 
 
 def measured(counter, program, bench, count):
