@@ -28,14 +28,14 @@ ROWS = (Row("update, called", "called", "update", "update"),
 
 
 def sources(args):
-    """The root files of the Rust, of libm and of the export, which is written here; and the sample's log beside them."""
+    """The project, and the root files of the Rust, of libm and of the export, which is written here, as is the sample's log."""
     packages.BENCH.mkdir(parents=True, exist_ok=True)
     rust, export = packages.BENCH / "fusion-ahrs", packages.BENCH / "gateweave"
     build.laid_out(args.rust, rust)
     libm = build.libm(args.libm)
-    native.exported(export)
+    project = native.exported(export)
     LOG.write_bytes(build.output(sys.executable, COUNTER.parent / "sample", why="tools/sample made nothing"))
-    return rust / "src/lib.rs", libm, export / "src/lib.rs"
+    return project, (rust / "src/lib.rs", libm, export / "src/lib.rs")
 
 
 def library(rustc, name, edition, root, into, *options):

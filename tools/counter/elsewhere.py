@@ -22,7 +22,8 @@ def main(args):
         if not shutil.which(needed):
             command.stop(f"the command {needed} is missing")
     with build.alone():
-        sources = drivers.sources(args)
+        project, sources = drivers.sources(args)
+        export = sources[2]
         rustc, link = packages.compiler("aarch64")
         counter = counting.emulator("aarch64")
         folder = drivers.compiled(rustc, link, sources, packages.BENCH / "aarch64")
@@ -30,4 +31,4 @@ def main(args):
         version = " ".join(build.quietly(*packages.rustc(), "--version", why="Debian's rustc does not answer").split()[:2])
         print(f"aarch64 instructions a call, by Debian's {version}")
         status = drivers.table(seen)
-        return status or firmware.table(sources[2])
+        return status or firmware.table(project, export)

@@ -14,8 +14,6 @@ import packages
 COUNTER = pathlib.Path(__file__).resolve().parent
 BENCH = packages.BENCH
 NATIVE = platform.machine() == "x86_64"
-# The bytes of a log's header and of a record.
-HEADER, RECORD = 30, 38
 # What each row counts, under which name the driver has it, and how many calls.
 ROWS = (("update", "update", 10000), ("bias reading", "reading", 10000), ("root", "root", 10000), ("run of 1000 vectors", "turn", 120))
 
@@ -37,7 +35,7 @@ def archive(inlined):
         top.mkdir(parents=True)
         shutil.copy(build.TOP / "crates.txt", top)
         shutil.copytree(build.TOP / "crates", top / "crates")
-        shutil.copytree(build.TOP / "target", top / "target", ignore=shutil.ignore_patterns("bench", "beside", "must-fail", "goals"))
+        shutil.copytree(build.TOP / "target", top / "target", ignore=shutil.ignore_patterns("bench", "beside", "native", "export", "must-fail"))
         (top / "crates/cost/src/once.rt").unlink()
         lib = top / "crates/cost/src/lib.rt"
         lib.write_text("".join(line for line in lib.read_text().splitlines(True) if not line.startswith("mod once;")))
@@ -85,31 +83,14 @@ def row(counter, program, label, bench, count):
     return port[0]
 
 
-def log(records):
-    """A log of so many records: the sample's, over and over, numbered on."""
-    path = BENCH / f"{records}.imu"
-    sample = build.output(sys.executable, COUNTER.parent / "sample", why="tools/sample made nothing")
-    bodies = [sample[i + 2:i + RECORD] for i in range(HEADER, len(sample), RECORD)]
-    with open(path, "wb") as file:
-        file.write(sample[:HEADER])
-        for i in range(records):
-            file.write((i % 65536).to_bytes(2, "little") + bodies[i % len(bodies)])
-    return path
-
-
 def replayed(counter, update):
     """Counts a record of the program `replay`, and on x86-64 times a million."""
-    def taken(records):
-        with open(log(records), "rb") as file:
-            done = subprocess.run([*map(str, [*counter, *replay])], stdin=file, stdout=subprocess.DEVNULL, stderr=subprocess.PIPE, text=True)
-        return counting.counted(done.stderr)
-
     program = build.program("replay")
     replay = program if NATIVE else program[1:]
-    each = (taken(12000) - taken(6000)) / 6000
+    each = counting.record([*counter, *replay])
     print(f"replay, a record: {each:.1f} instructions, {each / update:.2f} times an update that is called", flush=True)
     if NATIVE:
-        with open(log(1000000), "rb") as file:
+        with open(counting.log(1000000), "rb") as file:
             began = time.monotonic()
             subprocess.run(replay, stdin=file, stdout=subprocess.DEVNULL, check=True)
         print(f"replay: {1e6 / (time.monotonic() - began):,.0f} records a second")

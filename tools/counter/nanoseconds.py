@@ -30,7 +30,7 @@ def main(args):
     if not shutil.which("rustc"):
         command.stop("the command rustc is missing")
     with build.alone():
-        folder = drivers.compiled(["rustc"], (), drivers.sources(args), packages.BENCH / "native")
+        folder = drivers.compiled(["rustc"], (), drivers.sources(args)[1], packages.BENCH / "native")
         seen = {driver: measured(folder / driver, names) for driver, names in drivers.benches().items()}
     version = " ".join(build.quietly("rustc", "--version", why="rustc does not answer").split()[:2])
     print(f"nanoseconds a call on {processor()}, by {version}: medians of {ROUNDS} rounds over the sample's records")

@@ -1,4 +1,5 @@
-"""Debian's packages, unpacked below target/bench and not installed: a compiler for other processors, and what its programs are linked by."""
+"""Debian's packages, unpacked below target/bench and not installed: a compiler for other processors, and what its programs are linked and
+run by."""
 import platform
 import shutil
 
@@ -8,7 +9,7 @@ import command
 BENCH = build.TOP / "target/bench"
 DEB = BENCH / "deb"
 # Debian's name of a processor that programs are compiled for.
-NAMES = {"x86_64": "amd64", "aarch64": "arm64"}
+PROCESSORS = {"x86_64": "amd64", "aarch64": "arm64"}
 
 
 def fetch(architecture, into, *patterns):
@@ -52,10 +53,16 @@ def rustc():
 
 
 def compiler(processor):
-    """Debian's rustc for programs of a processor, x86_64 or aarch64, with what they are linked by."""
-    words, name = rustc(), NAMES[processor]
+    """Debian's rustc for programs of a processor, with what they are linked by."""
+    words, name = rustc(), PROCESSORS[processor]
     fetch(name, "rust", "libstd-rust-web-1.*", "libstd-rust-web-dev")
     fetch(name, "sys", "libc6", "libc6-dev", "libgcc-12-dev", "libgcc-s1", "linux-libc-dev")
     link = ("-Crelocation-model=static", "-Ctarget-feature=+crt-static", "-Clinker=clang", f"-Clink-arg=--target={processor}-linux-gnu",
             f"-Clink-arg=--sysroot={DEB}/sys", "-Clink-arg=-fuse-ld=lld")
     return [*words, "--target", f"{processor}-unknown-linux-gnu"], link
+
+
+def emulator(processor):
+    """Debian's qemu-user for the programs of a processor."""
+    fetch(host(), "qemu", "qemu-user", "libcapstone4", "liburing2")
+    return ["env", f"LD_LIBRARY_PATH={libraries('qemu')}", DEB / f"qemu/usr/bin/qemu-{processor}"]

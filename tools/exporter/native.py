@@ -1,11 +1,13 @@
 """Builds the exported text, and the program that holds it beside the Rust, for the machine at hand."""
 import collections
 import re
+import shutil
 import subprocess
 import sys
 
 import build
 import command
+import packages
 import rules
 
 NATIVE = build.TOP / "tools/native"
@@ -17,7 +19,7 @@ KINDS = (("updates", "updates", 1), ("readings", "readings", 1), ("others", "cal
 # The lines that count the other calls.
 OTHERS = ("other calls of the filter", "other calls of the estimator", "calls without a state", "reads beside an update or a reading")
 # With these an overflow, a lost bit of a cast or an index beyond the end stops the program, in the text and around it.
-CHECKED = ("-C", "overflow-checks=on", "-C", "debug-assertions=on")
+CHECKED = ("-Coverflow-checks=on", "-Cdebug-assertions=on")
 
 
 def exported(folder):
@@ -65,41 +67,53 @@ def rust(sources, into):
     return into
 
 
-def compiled(crate, into, options=("-C", "opt-level=3")):
-    """The exported crate in a folder, and the program over it and the opened Rust; the program's path."""
-    shared = ("--edition", "2024", *options, "-L", BUILD, "-L", build.BUILD)
+def compiled(crate, into, over, rustc=("rustc",), options=("-Copt-level=3",)):
+    """The exported crate in a folder, and the program over it and over the libraries of another folder; the program's path."""
     lib, program = into / "libgateweave.rlib", into / "native"
-    build.rustc(*shared, "--crate-type", "rlib", "--crate-name", "gateweave", "-o", lib, crate / "src/lib.rs", why="the export does not compile")
-    build.rustc(*shared, "--extern", f"gateweave={lib}", "--extern", f"fusion_ahrs={BUILD}/libfusion_ahrs.rlib", "--extern",
-                f"libm={build.BUILD}/liblibm.rlib", "-o", program, NATIVE / "main.rs", why="the program over the export does not compile")
+    shared = (*rustc, "--cap-lints", "allow", "--edition", "2024", *options, "-L", over, *externs(over))
+    build.quietly(*shared, "--crate-type", "rlib", "--crate-name", "gateweave", "-o", lib, crate / "src/lib.rs", why="the export does not compile")
+    build.quietly(*shared, "--extern", f"gateweave={lib}", "-o", program, NATIVE / "main.rs", why="the program over the export does not compile")
     return program
 
 
-def differ(sources, libm, checked=False):
-    """Builds what is not built yet: the path of the program that holds the export beside the Rust."""
-    build.oracle(sources, libm)
+def externs(folder):
+    """The Rust, opened, and libm, as libraries of a folder."""
+    return "--extern", f"fusion_ahrs={folder}/libfusion_ahrs.rlib", "--extern", f"libm={folder}/liblibm.rlib"
+
+
+def libraries(opened_, libm, into, rustc=("rustc",)):
+    """Compiles those two."""
+    shared = (*rustc, "--cap-lints", "allow", "-Copt-level=3", "--crate-type", "rlib", "-L", into)
+    build.quietly(*shared, "--edition", "2018", "--crate-name", "libm", "-o", into / "liblibm.rlib", libm, why="libm does not compile")
+    build.quietly(*shared, "--edition", "2024", "--crate-name", "fusion_ahrs", *externs(into)[2:], "-o", into / "libfusion_ahrs.rlib",
+                  opened_ / "src/lib.rs", why="the Rust with its fields public does not compile")
+
+
+def differ(sources, libm, checked=False, processor=None):
+    """The command that holds the export beside the Rust, on this machine or by an emulator of another; what is not built yet is built."""
+    if not shutil.which("rustc"):
+        command.stop("the Rust compiler is missing: no command rustc on the path")
     with build.alone():
-        BUILD.mkdir(parents=True, exist_ok=True)
-        crate, into = BUILD / "gateweave", BUILD / ("checked" if checked else "plain")
-        exported(crate)
-        rust(sources, BUILD / "fusion-ahrs")
-        stamp, now = into / "stamp", build.print_of(crate, BUILD / "fusion-ahrs", NATIVE, build.ORACLE)
-        if stamp.is_file() and stamp.read_text() == now and (into / "native").is_file():
-            return into / "native"
-        command.say("building the export beside the Rust ..")
+        crate, opened_, into = BUILD / "gateweave", BUILD / "fusion-ahrs", BUILD / ((processor or "here") + "-checked" * checked)
         into.mkdir(parents=True, exist_ok=True)
-        stamp.unlink(missing_ok=True)
-        build.rustc("--edition", "2024", "-C", "opt-level=3", "-L", build.BUILD, "--extern", f"libm={build.BUILD}/liblibm.rlib", "--crate-type", "rlib",
-                    "--crate-name", "fusion_ahrs", "-o", BUILD / "libfusion_ahrs.rlib", BUILD / "fusion-ahrs/src/lib.rs",
-                    why="the Rust with its fields public does not compile")
-        program = compiled(crate, into, ("-C", "opt-level=3", *(CHECKED if checked else ())))
-        stamp.write_text(now)
-        return program
+        exported(crate)
+        rust(sources, opened_)
+        root = build.libm(libm)
+        rustc, link = packages.compiler(processor) if processor else (["rustc"], ())
+        runs = packages.emulator(processor) if processor else []
+        stamp, now = into / "stamp", build.print_of(crate, opened_, NATIVE, build.ORACLE, root.parent)
+        if not (stamp.is_file() and stamp.read_text() == now and (into / "native").is_file()):
+            command.say("building the export beside the Rust ..")
+            stamp.unlink(missing_ok=True)
+            libraries(opened_, root, into, rustc)
+            compiled(crate, into, into, (*rustc, *link), ("-Copt-level=3", *CHECKED * checked))
+            stamp.write_text(now)
+        return [*runs, into / "native"]
 
 
 def counts(program, *words):
     """A run of the program: what it counted. Where the two sides differ, or a check stops it, that is shown and the tool ends."""
-    done = subprocess.run([program, *map(str, words)], stdout=subprocess.PIPE, stderr=subprocess.PIPE)
+    done = subprocess.run([*map(str, (*program, *words))], stdout=subprocess.PIPE, stderr=subprocess.PIPE)
     if done.returncode:
         print(done.stdout.decode(errors="replace").strip() or f"{' '.join(map(str, words))} stopped: {build.last_words(done.stderr)}")
         sys.exit(1)

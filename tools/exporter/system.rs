@@ -1,34 +1,31 @@
-//! What the programs use of the system and of the toolchain's `io`, by Rust's own library: only to run them on their stored inputs.
-
-pub mod libc {
-    use std::io::{Read, Write};
-
-    pub const STDIN_FILENO: i32 = 0;
-    pub const STDOUT_FILENO: i32 = 1;
-    pub const STDERR_FILENO: i32 = 2;
-
-    pub fn read(_: i32, buf: &mut [u8]) -> isize {
-        std::io::stdin().read(buf).map_or(-1, |n| n as isize)
-    }
-
-    pub fn write(fd: i32, buf: &[u8]) -> isize {
-        let done = if fd == STDOUT_FILENO { std::io::stdout().write_all(buf) } else { std::io::stderr().write_all(buf) };
-        done.map_or(-1, |()| buf.len() as isize)
-    }
-}
+//! What the programs use of the toolchain's `io` and `os`, over `libc`, which is this machine's or a device's: only to run them on their
+//! stored inputs.
 
 pub mod os {
+    use super::io::write_all;
+    use crate::libc::STDERR_FILENO;
+
     pub fn arg_count() -> usize {
-        std::env::args().count()
+        1
     }
 
     pub fn fail(what: &[u8]) {
-        eprintln!("{} failed", what.escape_ascii());
+        write_all(STDERR_FILENO, what);
+        write_all(STDERR_FILENO, b" failed\n");
     }
 }
 
 pub mod io {
-    use super::libc;
+    use crate::libc;
+    use core::fmt::Write;
+
+    struct Out(i32);
+
+    impl Write for Out {
+        fn write_str(&mut self, text: &str) -> core::fmt::Result {
+            if write_all(self.0, text.as_bytes()) { Ok(()) } else { Err(core::fmt::Error) }
+        }
+    }
 
     pub fn buffer() -> [u8; 4096] {
         [0; 4096]
@@ -43,7 +40,15 @@ pub mod io {
     }
 
     pub fn write_all(fd: i32, buf: &[u8]) -> bool {
-        buf.is_empty() || libc::write(fd, buf) > 0
+        let mut n = 0;
+        while n < buf.len() {
+            let put = libc::write(fd, &buf[n..]);
+            if put <= 0 {
+                return false;
+            }
+            n += put as usize;
+        }
+        true
     }
 
     pub fn read_full(fd: i32, buf: &mut [u8]) -> usize {
@@ -59,10 +64,10 @@ pub mod io {
     }
 
     pub fn print_decimal(fd: i32, n: u64) -> bool {
-        write_all(fd, n.to_string().as_bytes())
+        write!(Out(fd), "{n}").is_ok()
     }
 
     pub fn print_hex(fd: i32, n: u64, width: usize) -> bool {
-        write_all(fd, format!("{n:0width$x}").as_bytes())
+        write!(Out(fd), "{n:0width$x}").is_ok()
     }
 }
