@@ -21,8 +21,8 @@ BUILTINS = ("--cfg", 'feature="compiler-builtins"', "--cfg", 'feature="mem"', "-
 
 def compiled(rustc, name, root, *options):
     """A crate for the Cortex-M4F, over the libraries that are there."""
-    build.quietly(*rustc, "--cap-lints", "allow", "--edition", "2024", "--target", TARGET, "-Cpanic=abort", "-L", FOLDER, "--crate-name", name, *options,
-                  root, why=f"{name} does not compile for {TARGET}")
+    build.quietly(*rustc, "--cap-lints", "allow", "--edition", "2024", "--target", TARGET, "-Cpanic=abort", "-L", FOLDER, "--crate-name", name,
+                  *options, root, why=f"{name} does not compile for {TARGET}")
 
 
 def libraries():
@@ -84,8 +84,9 @@ def table(project, export):
         compiled(packages.rustc(), "gateweave", export, "--crate-type", "rlib", *options, "--emit", "obj", "-o", file)
         whole, functions = sizes(file)
         named = [[size for name, size in functions.items() if re.search(ending, name)] for ending in FUNCTIONS.values()]
+        parts = "".join(f"{found[0]:14,}" if found else f"{'-':>14}" for found in named)
         into = FOLDER / f"level-{level}"
         shutil.rmtree(into, ignore_errors=True)
         each = counting.record([*counter, program(project, export, "replay", into, *options)])
-        print(f"{f'opt-level {level}':34}{whole:10,}" + "".join(f"{found[0]:14,}" if found else f"{'-':>14}" for found in named) + f"{each:10.1f}", flush=True)
+        print(f"{f'opt-level {level}':34}{whole:10,}{parts}{each:10.1f}", flush=True)
     return 0

@@ -43,6 +43,6 @@ FAULTS = [
     ("bytes of a float swapped", "log/record.rs", "65536 * c + 16777216 * d", "65536 * d + 16777216 * c", "records"),
     ("sequence does not wrap", "log/record.rs", "crate::num::wrapping_add_u16(last, 1) == sequence", "last as u32 + 1 == sequence as u32", "records"),
     ("a byte of a cut record lost", "items.rs", "(j < n)", "(j + 1 < n)", "records"),
-    ("a refusal that a short end hides", "course.rs", "Phase::Ended(_, number) => number,", "Phase::Ended(_, number) => if left == 0 { number } else { 1 },",
-     "records"),
+    ("a refusal that a short end hides", "course.rs", "Phase::Ended(_, number) => number,",
+     "Phase::Ended(_, number) => if left == 0 { number } else { 1 },", "records"),
 ]

@@ -13,6 +13,8 @@ mod estimator;
 mod filter;
 #[path = "../oracle/generate.rs"]
 mod generate;
+#[path = "../oracle/geometry.rs"]
+mod geometry;
 #[path = "../oracle/log.rs"]
 mod log;
 mod logs;

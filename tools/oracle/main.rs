@@ -5,6 +5,7 @@ mod edge;
 mod estimator;
 mod filter;
 mod generate;
+mod geometry;
 mod log;
 mod machine;
 mod plain;
