@@ -18,7 +18,7 @@ PRIVATE = ("ahrs.rs", "bias.rs")
 KINDS = (("updates", "updates", 1), ("readings", "readings", 1), ("others", "calls without a state", 10), ("records", "records accepted", 10))
 # The lines that count the other calls.
 OTHERS = ("other calls of the filter", "other calls of the estimator", "calls without a state", "reads beside an update or a reading")
-# With these an overflow, a lost bit of a cast or an index beyond the end stops the program, in the text and around it.
+# With these an overflow or a shift by too much stops the program, as an index beyond the end does without them.
 CHECKED = ("-Coverflow-checks=on", "-Cdebug-assertions=on")
 
 
