@@ -44,6 +44,7 @@ LIB = """//! The proved core of Gateweave, an attitude filter, as Rust: a module
 //! rustc makes of it is not proved. What each function promises stands in its comment, in the words of the proofs.
 #![no_std]
 #![forbid(unsafe_code)]
+#![allow(clippy::all)]
 
 #[cfg(all(target_arch = "x86", not(target_feature = "sse2")))]
 compile_error!("the x87's floats are rounded twice");
