@@ -10,7 +10,7 @@ use gateweave::answer::Answer as Said;
 use gateweave::bias::reads::{ActiveRead, OffsetRead, SettingsRead as BiasSettingsRead};
 use gateweave::bias::{self, Bias, BiasSettings};
 use gateweave::math::{Quaternion, Vector};
-use gateweave::offset::{self, Offset};
+use gateweave::offset::{self, Offset, RecordRead};
 
 #[derive(Default)]
 pub struct Port {
@@ -245,11 +245,22 @@ pub fn read_bias(state: Bias, code: u32, a: &[u32]) -> Answer {
             }
             BiasSettingsRead::Refused(n) => numbered(n),
         },
-        0x68 => {
-            let mut buffer = vec![0x2A; length(a[1], 256)];
-            let number = offset::write_offset(Offset { mounting: choice(a[0]), vector: state.offset }, &mut buffer);
-            Answer { number: number.into(), words: packed(&buffer) }
-        }
+        0x68 => record(state, choice(a[0]), length(a[1], 256)),
         _ => refused(1),
     }
+}
+
+/// The offset's record, in a buffer of some length. What was written has to read back as it was.
+fn record(state: Bias, mounting: u8, length: usize) -> Answer {
+    let (mut buffer, vector) = (vec![0x2A; length], state.offset);
+    let number = offset::write_offset(Offset { mounting, vector }, &mut buffer);
+    if let RecordRead::Read(back) = offset::read_offset(&buffer) {
+        assert!(
+            number == 0 && back.mounting == mounting && of_vector(back.vector) == of_vector(vector),
+            "a record reads back as another"
+        );
+    } else {
+        assert!(number != 0, "a record that was written does not read back");
+    }
+    Answer { number: number.into(), words: packed(&buffer) }
 }
