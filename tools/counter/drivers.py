@@ -38,29 +38,21 @@ def sources(args):
     return project, (rust / "src/lib.rs", libm, export / "src/lib.rs")
 
 
-def library(rustc, name, edition, root, into, *options):
-    """A crate as a library in a folder, over the libraries that are there; the option by which others are compiled over it."""
-    file = into / f"lib{name}.rlib"
-    build.quietly(*rustc, "--cap-lints", "allow", "-Copt-level=3", "--edition", edition, "--crate-type", "rlib", "--crate-name", name, "-L", into,
-                  *options, "-o", file, root, why=f"{name} does not compile")
-    return "--extern", f"{name}={file}"
-
-
 def compiled(rustc, link, files, into):
     """The four drivers: as cargo's release has it and with fat LTO, each over libm as it stands and with the processor's root in it."""
     rust, libm, export = files
     into.mkdir(parents=True, exist_ok=True)
     command.say("compiling the exported text, the Rust and the driver ..")
-    port = library(rustc, "gateweave", "2024", export, into)
+    port = build.library(rustc, "gateweave", "2024", export, into)
     for root in ("", "-processor"):
         folder = into / f"libm{root}"
         folder.mkdir(exist_ok=True)
         if root:
-            real = library(rustc, "real_libm", "2018", libm, folder)
-            given = library(rustc, "libm", "2024", COUNTER / "libm.rs", folder, *real)
+            real = build.library(rustc, "real_libm", "2018", libm, folder)
+            given = build.library(rustc, "libm", "2024", COUNTER / "libm.rs", folder, *real)
         else:
-            given = library(rustc, "libm", "2018", libm, folder)
-        theirs = library(rustc, "fusion_ahrs", "2024", rust, folder, *given)
+            given = build.library(rustc, "libm", "2018", libm, folder)
+        theirs = build.library(rustc, "fusion_ahrs", "2024", rust, folder, *given)
         for name, options in (("called", ()), ("lto", ("-Clto=fat", "-Ccodegen-units=1"))):
             build.quietly(*rustc, *link, *options, "--cap-lints", "allow", "-Copt-level=3", "--edition", "2024", "-L", folder, *given, *theirs,
                           *port, "-o", into / f"{name}{root}", COUNTER / "native.rs", why="the driver does not compile")

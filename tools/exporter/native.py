@@ -67,26 +67,13 @@ def rust(sources, into):
     return into
 
 
-def compiled(crate, into, over, rustc=("rustc",), options=("-Copt-level=3",)):
-    """The exported crate in a folder, and the program over it and over the libraries of another folder; the program's path."""
-    lib, program = into / "libgateweave.rlib", into / "native"
-    shared = (*rustc, "--cap-lints", "allow", "--edition", "2024", *options, "-L", over, *externs(over))
-    build.quietly(*shared, "--crate-type", "rlib", "--crate-name", "gateweave", "-o", lib, crate / "src/lib.rs", why="the export does not compile")
-    build.quietly(*shared, "--extern", f"gateweave={lib}", "-o", program, NATIVE / "main.rs", why="the program over the export does not compile")
-    return program
-
-
-def externs(folder):
-    """The Rust, opened, and libm, as libraries of a folder."""
-    return "--extern", f"fusion_ahrs={folder}/libfusion_ahrs.rlib", "--extern", f"libm={folder}/liblibm.rlib"
-
-
-def libraries(opened_, libm, into, rustc=("rustc",)):
-    """Compiles those two."""
-    shared = (*rustc, "--cap-lints", "allow", "-Copt-level=3", "--crate-type", "rlib", "-L", into)
-    build.quietly(*shared, "--edition", "2018", "--crate-name", "libm", "-o", into / "liblibm.rlib", libm, why="libm does not compile")
-    build.quietly(*shared, "--edition", "2024", "--crate-name", "fusion_ahrs", *externs(into)[2:], "-o", into / "libfusion_ahrs.rlib",
-                  opened_ / "src/lib.rs", why="the Rust with its fields public does not compile")
+def compiled(crate, into, over, rustc=("rustc",), link=(), options=()):
+    """The exported crate in a folder, and the program over it and over the two libraries of another folder; the program's path."""
+    port = build.library(rustc, "gateweave", "2024", crate / "src/lib.rs", into, *options)
+    theirs = (part for name in ("fusion_ahrs", "libm") for part in ("--extern", f"{name}={over}/lib{name}.rlib"))
+    build.quietly(*rustc, *link, "--cap-lints", "allow", "-Copt-level=3", "--edition", "2024", *options, "-L", over, *theirs, *port, "-o",
+                  into / "native", NATIVE / "main.rs", why="the program over the export does not compile")
+    return into / "native"
 
 
 def differ(sources, libm, checked=False, processor=None):
@@ -94,19 +81,19 @@ def differ(sources, libm, checked=False, processor=None):
     if not shutil.which("rustc"):
         command.stop("the Rust compiler is missing: no command rustc on the path")
     with build.alone():
-        crate, opened_, into = BUILD / "gateweave", BUILD / "fusion-ahrs", BUILD / ((processor or "here") + "-checked" * checked)
+        crate, theirs, into = BUILD / "gateweave", BUILD / "fusion-ahrs", BUILD / ((processor or "here") + "-checked" * checked)
         into.mkdir(parents=True, exist_ok=True)
         exported(crate)
-        rust(sources, opened_)
+        rust(sources, theirs)
         root = build.libm(libm)
         rustc, link = packages.compiler(processor) if processor else (["rustc"], ())
         runs = packages.emulator(processor) if processor else []
-        stamp, now = into / "stamp", build.print_of(crate, opened_, NATIVE, build.ORACLE, root.parent)
+        stamp, now = into / "stamp", build.print_of(crate, theirs, NATIVE, build.ORACLE, root.parent)
         if not (stamp.is_file() and stamp.read_text() == now and (into / "native").is_file()):
             command.say("building the export beside the Rust ..")
             stamp.unlink(missing_ok=True)
-            libraries(opened_, root, into, rustc)
-            compiled(crate, into, into, (*rustc, *link), ("-Copt-level=3", *CHECKED * checked))
+            build.library(rustc, "fusion_ahrs", "2024", theirs / "src/lib.rs", into, *build.library(rustc, "libm", "2018", root, into))
+            compiled(crate, into, into, rustc, link, CHECKED * checked)
             stamp.write_text(now)
         return [*runs, into / "native"]
 

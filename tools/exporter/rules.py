@@ -252,15 +252,15 @@ def called(text, names):
 
 def library(kit, name, wanted):
     """The functions of a library that are wanted, and those that they call, in the library's order."""
-    all_ = functions((kit / "libs" / KIT[name]).read_text("utf-8"))
-    if missing := wanted - all_.keys():
+    known = functions((kit / "libs" / KIT[name]).read_text("utf-8"))
+    if missing := wanted - known.keys():
         raise Unknown(f"{name} has no function {sorted(missing)[0]}")
     found, new = set(), set(wanted)
     while new:
         found |= new
-        new = set().union(*(called(all_[n], all_.keys()) for n in new)) - found
+        new = set().union(*(called(known[n], known.keys()) for n in new)) - found
     text = f"// Of the toolchain's library `{name}`, the functions that are called here.\n\n"
-    return text + "\n\n".join(all_[n] for n in all_ if n in found) + "\n"
+    return text + "\n\n".join(known[n] for n in known if n in found) + "\n"
 
 
 class Project:

@@ -46,7 +46,7 @@ impl Script<'_> {
         }
     }
 
-    /// Limits of any size, about the largest that a residual can have, and zeros, under which a pole is carried on.
+    /// Limits of any size, about the largest that a residual can have, and zeros; good and bad readings come in rows under them.
     fn any_limits(&mut self) {
         let mut s = self.ahrs_settings();
         let r = &mut self.random;

@@ -71,6 +71,14 @@ def rustc(*args, why):
     return quietly("rustc", "--cap-lints", "allow", *args, why=why)
 
 
+def library(rustc, name, edition, root, into, *options):
+    """A crate as a library in a folder, over the libraries that are there; the option by which others are compiled over it."""
+    file = into / f"lib{name}.rlib"
+    quietly(*rustc, "--cap-lints", "allow", "-Copt-level=3", "--edition", edition, "--crate-type", "rlib", "--crate-name", name, "-L", into,
+            *options, "-o", file, root, why=f"{name} does not compile")
+    return "--extern", f"{name}={file}"
+
+
 def files(sources):
     """The Rust's files by their paths: as they lie, or from flat copies (src--src--lib.rs.txt)."""
     if (sources / "src/lib.rs").is_file():
