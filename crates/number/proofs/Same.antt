@@ -141,7 +141,7 @@ eq-plain (fin s zero e) (fin t (suc n) d) = level-left s t t (0 * up e * down d)
 eq-plain (fin s (suc m) e) (fin t zero d) = level-right s t (suc m * up e * down d) (0 * up d * down e) (zeros (up d) (down e))
 eq-plain (fin s (suc m) e) (fin t (suc n) d) = refl
 
-finite-plain : (x : Float) → finite x ≡ finite (plain x)
+pub finite-plain : (x : Float) → finite x ≡ finite (plain x)
 unfolding plain
 finite-plain nan = refl
 finite-plain (inf s) = refl

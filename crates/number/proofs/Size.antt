@@ -35,7 +35,7 @@ fabsf-negative (fin false m e) h = absurd (not-below-zero (m * up e * 1) (0 * do
 two-up : (p : ℕ) → 0 < p → 2 * p ≡ 1 → ⊥
 two-up p h e = omega arith
 
-flat : (e : ℤ) → up e * down e ≡ 1 → e ≡ pos 0
+pub flat : (e : ℤ) → up e * down e ≡ 1 → e ≡ pos 0
 flat (pos zero) h = refl
 flat (pos (suc k)) h = absurd (two-up (2 ^ k) (pow-pos k) (sym (pow-succ' 2 k) ∙ sym (mul-one (2 ^ suc k)) ∙ h))
 flat (negsuc k) h = absurd (two-up (2 ^ k) (pow-pos k) (sym (pow-succ' 2 k) ∙ sym (one-mul (2 ^ suc k)) ∙ h))
