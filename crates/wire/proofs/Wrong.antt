@@ -5,11 +5,16 @@ use lib.IntN.{pos}
 use mathlib.Core.Path.{_≡_}
 use mathlib.Core.Bool.{true, false}
 use mathlib.Core.List.{List, [], _∷_}
+use lib.ListN.{getD}
 use lib.Ieee.{nan, fin, ofBits, toBits}
 use Rattle.wire.specs.Wire.{u16At, bitsAt, putU16, putBits, finiteBits, floatOf, bitsOf}
 
 abbrev four : List ℕ
 four = 1 ∷ 2 ∷ 3 ∷ 4 ∷ []
+
+-- the byte behind it; a byte past the end that is the last one again
+pub of-u8-at : (2 ≡ getD four 0 0 → ⊥) × (4 ≡ getD four 4 0 → ⊥)
+of-u8-at = (λ h. omega arith, λ h. omega arith)
 
 -- highest byte first; a byte past the end that is the last one again
 pub of-u16-at : (258 ≡ u16At four 0 → ⊥) × (1028 ≡ u16At four 3 → ⊥)

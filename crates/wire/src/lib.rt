@@ -39,6 +39,13 @@ fn wide(s: &[u8], at: usize, k: usize) -> u32
     byte_at(s, at, k) as u32
 }
 
+// The byte at `at`.
+pub fn u8_at(s: &[u8], at: usize) -> u8
+    ensures { λ r. ⌜ r ≡ getD (now (s .entry)) at 0 ⌝ }
+{
+    byte_at(s, at, 0)
+}
+
 // The 16-bit number at `at`.
 pub fn u16_at(s: &[u8], at: usize) -> u16
     ensures { λ r. ⌜ r ≡ u16At (now (s .entry)) at ⌝ }
