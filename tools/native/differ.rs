@@ -83,8 +83,7 @@ impl Differ {
             }
         } else {
             self.tally.bias_changes += 1;
-            self.tally.written += u64::from(r[0] == 0x68 && number == 0);
-            self.tally.restored += u64::from(r[0] == 0x69 && number == 0);
+            self.tally.record(r, number, &after);
         }
         self.bias = after;
     }

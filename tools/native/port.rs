@@ -3,7 +3,7 @@
 use crate::machine::{Answer, gives, refused};
 use crate::plain_port::{arithmetic, mountings};
 use crate::record::{QUIET, Record};
-use crate::words::{bits, f, length, packed, unpacked};
+use crate::words::{MINUS_ZERO, bits, f, length, packed, unpacked};
 use gateweave::ahrs::read::{FlagsRead, QuaternionRead, SettingsRead, StatesRead, VectorRead};
 use gateweave::ahrs::{self, Ahrs, Settings};
 use gateweave::answer::Answer as Said;
@@ -250,15 +250,15 @@ pub fn read_bias(state: Bias, code: u32, a: &[u32]) -> Answer {
     }
 }
 
-/// The offset's record, in a buffer of some length. What was written has to read back as it was.
+/// The offset's record, in a buffer of some length. What was written has to read back with plus zeros, and to be written as it was.
 fn record(state: Bias, mounting: u8, length: usize) -> Answer {
     let (mut buffer, vector) = (vec![0x2A; length], state.offset);
     let number = offset::write_offset(Offset { mounting, vector }, &mut buffer);
     if let RecordRead::Read(back) = offset::read_offset(&buffer) {
-        assert!(
-            number == 0 && back.mounting == mounting && of_vector(back.vector) == of_vector(vector),
-            "a record reads back as another"
-        );
+        let plain = of_vector(vector).map(|w| if w == MINUS_ZERO { 0 } else { w });
+        assert!(number == 0 && back.mounting == mounting && of_vector(back.vector) == plain, "a record reads back as another");
+        let mut again = vec![0x2A; length];
+        assert!(offset::write_offset(back, &mut again) == 0 && again == buffer, "what was read is written as another record");
     } else {
         assert!(number != 0, "a record that was written does not read back");
     }

@@ -1,7 +1,9 @@
 //! What a run reaches: how many calls of each kind, their answers, and the cases that are easily missed.
 
+use crate::estimator::has_minus_zero;
 use crate::record::Record;
 use crate::state::{ACCELERATION, LIMITS_USED, MAGNETIC, QUATERNION, TIMEOUT};
+use crate::words::MINUS_ZERO;
 use fusion_ahrs::Vector;
 
 /// A number for each line that is printed.
@@ -52,6 +54,9 @@ tally! {
     cleared "readings that clear the timer",
     written "offset records written",
     restored "offset records restored",
+    plain_written "offset records written of a minus zero",
+    minus_refused "offset records refused for one",
+    minus_restored "offset records restored to one",
     changes "other calls of the filter",
     bias_changes "other calls of the estimator",
     plain "calls without a state",
@@ -137,6 +142,20 @@ impl Tally {
             &mut self.logs8,
         ];
         *ends.into_iter().nth(number as usize).expect("a refusal's number") += 1;
+    }
+
+    /// The signs of zeros about the offset record.
+    pub fn record(&mut self, r: &Record, number: u32, after: &[u32; 10]) {
+        let minus = after[7..].contains(&MINUS_ZERO);
+        if r[0] == 0x68 && number == 0 {
+            self.written += 1;
+            self.plain_written += u64::from(minus);
+        }
+        if r[0] == 0x69 {
+            self.restored += u64::from(number == 0);
+            self.minus_refused += u64::from(number == 5 && has_minus_zero(&r[1..]));
+            self.minus_restored += u64::from(number == 0 && minus);
+        }
     }
 
     pub fn reading(&mut self, r: &Record, number: u32, before: &[u32; 10], after: &[u32; 10]) {

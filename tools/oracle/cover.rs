@@ -1,8 +1,10 @@
 //! What a script reaches: a count for each answer of each call, and for each case that is easily missed.
 
+use crate::estimator::has_minus_zero;
 use crate::machine::Machine;
 use crate::record::{QUIET, Record, call};
 use crate::state::{self, ACCELERATION, LIMITS_USED, MAGNETIC, TIMEOUT};
+use crate::words::MINUS_ZERO;
 use fusion_ahrs::Vector;
 use std::collections::BTreeMap;
 use std::io::{self, Write};
@@ -24,6 +26,7 @@ impl Cover {
         let bias = self.machine.bias.map(|b| state::of_bias(&b));
         let number = self.machine.call(r).number;
         self.count(&format!("{} {number}", call(code).unwrap().1), true);
+        self.zeros(r, number);
         if number != 0 {
             return;
         }
@@ -34,6 +37,20 @@ impl Cover {
                 self.count("> bias timer cleared", before[6] > 0 && after[6] == 0);
                 self.count("> bias timer up", after[6] > before[6]);
                 self.count("> bias offset moved", after[7..] != before[7..]);
+            }
+            _ => (),
+        }
+    }
+
+    /// The signs of zeros about the offset record.
+    fn zeros(&mut self, r: &Record, number: u32) {
+        let Some(bias) = self.machine.bias else { return };
+        let minus = state::of_bias(&bias)[7..].contains(&MINUS_ZERO);
+        match r[0] & !QUIET {
+            0x68 => self.count("> minus zero recorded as zero", number == 0 && minus),
+            0x69 => {
+                self.count("> minus zero in a record, refused", number == 5 && has_minus_zero(&r[1..]));
+                self.count("> zero restored with a minus sign", number == 0 && minus);
             }
             _ => (),
         }

@@ -3,7 +3,7 @@
 use crate::machine::{Answer, Machine, gives, refused};
 use crate::plain::{inverse, mounting};
 use crate::state;
-use crate::words::{all_finite, bits, f, length, of_v, packed, unpacked, v};
+use crate::words::{MINUS_ZERO, all_finite, bits, f, length, of_v, packed, unpacked, v};
 use fusion_ahrs::{Bias, BiasSettings, RemapAlignment, remap};
 
 impl Machine {
@@ -82,7 +82,7 @@ impl Machine {
         }
         let (Some(from), Some(to)) = (mounting(bytes[5].into()), mounting(a[0])) else { return refused(4) };
         let words = packed(&bytes[6..]);
-        if !all_finite(&words) {
+        if !all_finite(&words) || words.contains(&MINUS_ZERO) {
             return refused(5);
         }
         next.set_offset(remap(remap(v(&words), RemapAlignment::ALL[inverse(from) as usize]), to));
@@ -90,7 +90,13 @@ impl Machine {
     }
 }
 
-/// The offset's record, in a buffer of the length given.
+/// Whether the record that a restore is given has a minus zero.
+pub fn has_minus_zero(a: &[u32]) -> bool {
+    let bytes = unpacked(&a[2..], a[1]);
+    bytes.len() == 18 && packed(&bytes[6..]).contains(&MINUS_ZERO)
+}
+
+/// The offset's record, with plus zeros, in a buffer of the length given.
 fn record(bias: Bias, a: &[u32]) -> Answer {
     let mut buffer = vec![0x2A; length(a[1], 256)];
     let number = match (buffer.len(), mounting(a[0])) {
@@ -100,8 +106,9 @@ fn record(bias: Bias, a: &[u32]) -> Answer {
     };
     if number == 0 {
         buffer[..6].copy_from_slice(&[b'G', b'O', b'F', 1, 0, a[0] as u8]);
-        for (i, w) in of_v(bias.offset()).iter().enumerate() {
-            buffer[6 + 4 * i..10 + 4 * i].copy_from_slice(&w.to_le_bytes());
+        for (i, w) in of_v(bias.offset()).into_iter().enumerate() {
+            let plain = if w == MINUS_ZERO { 0 } else { w };
+            buffer[6 + 4 * i..10 + 4 * i].copy_from_slice(&plain.to_le_bytes());
         }
     }
     Answer { number, words: packed(&buffer) }

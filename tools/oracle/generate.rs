@@ -5,7 +5,7 @@ use crate::machine::{Answer, Machine};
 use crate::random::Random;
 use crate::record::{CALLS, QUIET, Record, record};
 use crate::state;
-use crate::words::packed;
+use crate::words::{MINUS_ZERO, packed};
 
 /// A script in the making. Each call is handed on with the Rust's answer to it; one call in `quiet` prints its state.
 pub struct Script<'a> {
@@ -235,18 +235,11 @@ impl Script<'_> {
         let r = &mut self.random;
         match r.below(24) {
             0 => drop(self.put(0x63, &[])),
-            1 => {
-                let offset = r.vector();
-                self.put(0x64, &offset);
-            }
+            1 => self.set_offset(),
             2 if r.one_in(4) => drop(self.put(0x65, &[])),
             3 => drop(self.put(0x66, &[])),
             4 => drop(self.put(0x67, &[])),
-            5 => {
-                let len = if r.one_in(4) { r.below(40) as u32 } else { 18 };
-                let number = r.below(26) as u32;
-                self.put(0x68, &[number, len]);
-            }
+            5 => self.record(),
             6 => self.restore(),
             7 => {
                 let gyroscope = [r.loose(), r.loose(), r.loose()];
@@ -276,10 +269,29 @@ impl Script<'_> {
         self.put(0x62, &g);
     }
 
+    fn set_offset(&mut self) {
+        let offset = self.random.offset();
+        self.put(0x64, &offset);
+    }
+
+    /// The record of the offset, be it one that was just set.
+    fn record(&mut self) {
+        if self.random.one_in(3) {
+            self.set_offset();
+        }
+        let r = &mut self.random;
+        let len = if r.one_in(4) { r.below(40) as u32 } else { 18 };
+        let number = r.below(26) as u32;
+        self.put(0x68, &[number, len]);
+    }
+
+    /// A record, now and then with a minus zero, damaged, or of another length.
     fn restore(&mut self) {
         let r = &mut self.random;
         let mut bytes = vec![b'G', b'O', b'F', 1, 0, r.below(25) as u8];
-        for w in r.vector() {
+        let signed = r.one_in(3);
+        for w in r.offset() {
+            let w = if w == MINUS_ZERO && !signed { 0 } else { w };
             bytes.extend(w.to_le_bytes());
         }
         if r.one_in(3) {

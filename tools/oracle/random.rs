@@ -1,6 +1,7 @@
 //! Random numbers, and floats of the kinds that a script wants.
 
 use crate::state;
+use crate::words::MINUS_ZERO;
 
 /// splitmix64.
 pub struct Random(pub u64);
@@ -125,5 +126,11 @@ impl Random {
 
     pub fn vector(&mut self) -> [u32; 3] {
         [self.float(), self.float(), self.float()]
+    }
+
+    /// An offset, often with zeros of either sign.
+    pub fn offset(&mut self) -> [u32; 3] {
+        let zeros = self.one_in(3);
+        self.vector().map(|w| if zeros && self.one_in(2) { self.pick(&[0, MINUS_ZERO]) } else { w })
     }
 }

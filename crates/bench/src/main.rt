@@ -11,6 +11,7 @@ use bias::BiasSettings;
 use bias::Started;
 use filter::Beginning;
 use libc::STDOUT_FILENO;
+use offset::Offset;
 use offset::RecordRead;
 use vector::Vector;
 
@@ -76,7 +77,7 @@ fn print_record(name: &[u8], bytes: &[u8]) {
 }
 
 // Restores the record into a fresh estimator.
-fn print_restored(bytes: &[u8], mounting: u8) {
+fn print_restored(name: &[u8], bytes: &[u8], mounting: u8) {
     let started = Bias::with_settings(BiasSettings {
         sample_rate: 100.0,
         stationary_threshold: 3.0,
@@ -87,7 +88,8 @@ fn print_restored(bytes: &[u8], mounting: u8) {
         return;
     };
     let change = offset::restore(fresh, bytes, mounting);
-    say(b"record restored under mounting ");
+    say(name);
+    say(b" restored under mounting ");
     count(mounting as u64);
     say(b":");
     if change.number == 0 {
@@ -106,10 +108,27 @@ fn print_records() {
     let mut unknown = RECORD;
     unknown[5] = 24;
     print_record(b"record", &RECORD);
-    print_restored(&RECORD, 0);
+    print_restored(b"record", &RECORD, 0);
     print_record(b"record of 17 bytes", &RECORD[..17]);
     print_record(b"record of 19 bytes", &longer);
     print_record(b"record of mounting 24", &unknown);
+}
+
+// A record has no minus zero, and the sign of a restored zero is the turning's.
+fn print_zeros() {
+    let mut record = [0u8; 18];
+    offset::write_offset(
+        Offset {
+            mounting: 0,
+            vector: Vector::new(-0.0, -0.0, -0.0),
+        },
+        &mut record,
+    );
+    print_record(b"minus zeros written and read", &record);
+    print_restored(b"record of zeros", &record, 2);
+    record[17] = 0x80;
+    print_record(b"record with a minus zero", &record);
+    print_restored(b"record with a minus zero", &record, 2);
 }
 
 fn report(name: &[u8], yes: bool) {
@@ -239,6 +258,7 @@ fn main() {
     print_still(b"bias timeout 300", 3.0);
     print_still(b"bias timeout 0", 0.0);
     print_records();
+    print_zeros();
     print_step();
     print_range();
     print_startup();

@@ -2,63 +2,61 @@
 use Prim.Native.Nat.{ℕ, _<_}
 use native.Mathlib.Omega.{arith}
 use mathlib.Core.Path.{_≡_, ap, ap₂, _∙_}
-use mathlib.Core.Bool.{Bool, true, false, not, _&&_, _||_}
-use mathlib.Core.List.{List, [], _∷_}
+use mathlib.Core.Bool.{Bool, true, not, _&&_, _||_}
+use mathlib.Core.List.{List, []}
 use lib.Dec.{ltb, eqb}
 use lib.ListN.{length}
 use borrow.Author.Tests.{eqb-true, ltb-false, le-ltb}
-use Rattle.answer.specs.Refusals.{check, refusalOf, accepted}
+use Rattle.answer.specs.Refusals.{refusalOf, accepted}
 use Rattle.answer.proofs.Tests.{agrees, both, neither}
 use Rattle.answer.proofs.Answering.{passes, all-pass, passed, unfailed}
 use Rattle.vector.specs.Vectors.{finiteVector}
 use Rattle.wire.specs.Wire.{u16At}
 use Rattle.offset.specs.declared.Offset.{Offset}
-use Rattle.offset.specs.Record.{hasMark, mountingAt, vectorAt, recordChecks, writeChecks}
+use Rattle.offset.specs.Record.{hasMark, mountingAt, storableVector, vectorAt, recordChecks, writeChecks}
 
-pub record Good (s : List ℕ) (m : ℕ) (f : Bool) : Type 0 where
-  pub size : length s ≡ 18
+-- n and v are the record's length and version
+pub record Good (n v : ℕ) (s : List ℕ) (m : ℕ) (f : Bool) : Type 0 where
+  pub size : length s ≡ n
   pub mark : hasMark s ≡ true
-  pub version : u16At s 3 ≡ 1
+  pub version : u16At s 3 ≡ v
   pub other : m < 24
   pub mounting : mountingAt s < 24
   pub state : f ≡ true
-  pub floats : finiteVector (vectorAt s) ≡ true
+  pub floats : storableVector (vectorAt s) ≡ true
 
 -- ---- the record's checks all pass exactly where it is good
 
--- of the right size, mark and version: 4 and 5 are left
-pub shaped : (s : List ℕ) (m : ℕ) (f : Bool) → length s ≡ 18 → not (hasMark s) ≡ false → u16At s 3 ≡ 1
-    → refusalOf (recordChecks s m f)
-    ≡ refusalOf (check 4 (ltb 23 m || ltb 23 (mountingAt s)) ∷ check 5 (not (f && finiteVector (vectorAt s))) ∷ [])
-unfolding recordChecks
-shaped s m f size mark version = passes 1 _ (agrees (length s) 18 size) ∙ passes 2 _ mark ∙ passes 3 _ (agrees (u16At s 3) 1 version)
+module _ (n v : ℕ) (s : List ℕ) (m : ℕ) (f : Bool) where
+  pub good : refusalOf (recordChecks n v s m f) ≡ 0 → Good n v s m f
+  unfolding recordChecks
+  good e =
+      let p₁ = passed 0 (eqb (length s) n) _ e in
+      let p₂ = passed 1 (hasMark s) _ (p₁ .1) in
+      let p₃ = passed 2 (eqb (u16At s 3) v) _ (p₂ .1) in
+      let p₄ = unfailed 3 (ltb 23 m || ltb 23 (mountingAt s)) _ (p₃ .1) in
+      let p₅ = passed 4 (f && storableVector (vectorAt s)) _ (p₄ .1) in
+      let numbers = neither (ltb 23 m) (ltb 23 (mountingAt s)) (p₄ .0) in
+      let floats = both f (storableVector (vectorAt s)) (p₅ .0) in
+      record {
+        size = eqb-true (length s) n (p₁ .0);
+        mark = p₂ .0;
+        version = eqb-true (u16At s 3) v (p₃ .0);
+        other = omega (arith, ltb-false 23 m (numbers .0));
+        mounting = omega (arith, ltb-false 23 (mountingAt s) (numbers .1));
+        state = floats .0;
+        floats = floats .1;
+      }
 
-pub good : (s : List ℕ) (m : ℕ) (f : Bool) → refusalOf (recordChecks s m f) ≡ 0 → Good s m f
-unfolding recordChecks
-good s m f e₁ =
-    let p₁ = passed 0 (eqb (length s) 18) _ e₁ in
-    let p₂ = passed 1 (hasMark s) _ (p₁ .1) in
-    let p₃ = passed 2 (eqb (u16At s 3) 1) _ (p₂ .1) in
-    let p₄ = unfailed 3 (ltb 23 m || ltb 23 (mountingAt s)) _ (p₃ .1) in
-    let p₅ = passed 4 (f && finiteVector (vectorAt s)) _ (p₄ .1) in
-    let numbers = neither (ltb 23 m) (ltb 23 (mountingAt s)) (p₄ .0) in
-    let floats = both f (finiteVector (vectorAt s)) (p₅ .0) in
-    record {
-      size = eqb-true (length s) 18 (p₁ .0);
-      mark = p₂ .0;
-      version = eqb-true (u16At s 3) 1 (p₃ .0);
-      other = omega (arith, ltb-false 23 m (numbers .0));
-      mounting = omega (arith, ltb-false 23 (mountingAt s) (numbers .1));
-      state = floats .0;
-      floats = floats .1;
-    }
-
-pub good-passes : (s : List ℕ) (m : ℕ) (f : Bool) → Good s m f → refusalOf (recordChecks s m f) ≡ 0
-good-passes s m f g =
-    shaped s m f (g .size) (ap not (g .mark)) (g .version)
-    ∙ passes 4 _ (rw (le-ltb 23 m (omega (arith, g .other)), le-ltb 23 (mountingAt s) (omega (arith, g .mounting))))
-    ∙ passes 5 _ (ap not (ap₂ _&&_ (g .state) (g .floats)))
-    ∙ all-pass
+  pub good-passes : Good n v s m f → refusalOf (recordChecks n v s m f) ≡ 0
+  unfolding recordChecks
+  good-passes g =
+      passes 1 _ (agrees (length s) n (g .size))
+      ∙ passes 2 _ (ap not (g .mark))
+      ∙ passes 3 _ (agrees (u16At s 3) v (g .version))
+      ∙ passes 4 _ (rw (le-ltb 23 m (omega (arith, g .other)), le-ltb 23 (mountingAt s) (omega (arith, g .mounting))))
+      ∙ passes 5 _ (ap not (ap₂ _&&_ (g .state) (g .floats)))
+      ∙ all-pass
 
 -- ---- a write's
 

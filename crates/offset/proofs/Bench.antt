@@ -1,19 +1,21 @@
--- 01's bench table, the record's row, by evaluation. Assumes nothing.
-use Prim.Native.Nat.{ℕ}
+-- 01's bench table, the record's row, and what 02's P4 says of zeros, by evaluation. Assumes nothing.
+use Prim.Native.Nat.{ℕ, _+_, _*_}
 use mathlib.Core.Path.{_≡_, refl}
 use mathlib.Core.Bool.{true, false}
-use mathlib.Core.List.{List, [], _∷_}
+use mathlib.Core.List.{List, [], _∷_, map}
 use lib.IntN.{pos, negsuc}
-use lib.Ieee.{Float, fin, ofBits, toBits}
+use lib.ListN.{set}
+use lib.Ieee.{Float, fin, neg, ofBits, toBits}
 use Rattle.answer.specs.Refusals.{refusalOf}
-use Rattle.vector.specs.Vectors.{vector, finiteVector}
+use Rattle.number.specs.Same.{plain, isMinusZero}
+use Rattle.vector.specs.Vectors.{vector}
 use Rattle.vector.specs.Mounting.{mountingOf}
 use Rattle.remap.specs.First.{first}
 use Rattle.remap.specs.Names.{nameOf, same}
 use Rattle.remap.specs.Composition.{composeOf, inverseOf}
 use Rattle.bias.specs.declared.Bias.{Bias}
 use Rattle.offset.specs.declared.Offset.{Offset}
-use Rattle.offset.specs.Record.{hasMark, vectorAt, offsetAt, recordOf, recordChecks, readChecks}
+use Rattle.offset.specs.Record.{hasMark, vectorAt, offsetAt, storable, storableVector, recordOf, recordChecks, readChecks}
 use Rattle.offset.specs.Restore.{reframedOf, restoredOf}
 
 abbrev pub one : Float
@@ -44,10 +46,38 @@ pub bench-read
     × (refusalOf (readChecks (recordWith 0x0B [])) ≡ 1)
     × (refusalOf (readChecks (recordWith 0x0B (0x3F ∷ 0x00 ∷ []))) ≡ 1)
     × (refusalOf (readChecks (recordWith 24 (0x3F ∷ []))) ≡ 4)
-unfolding refusalOf recordChecks hasMark vectorAt recordOf finiteVector ofBits toBits
+unfolding refusalOf recordChecks hasMark vectorAt storableVector storable isMinusZero recordOf plain ofBits toBits
 bench-read = (refl, refl, refl, refl, refl, refl)
 
 -- restored under 0, into any estimator
 pub bench-restored : (b : Bias) → restoredOf b row 0 .offset ≡ vector half one minusTwo
 unfolding reframedOf inverseOf composeOf first same nameOf mountingOf vectorAt ofBits
 bench-restored b = refl
+
+-- ---- zeros
+
+abbrev pub nought : Float
+nought = fin false 0 (pos 0)
+
+abbrev pub minusNought : Float
+minusNought = fin true 0 (pos 0)
+
+-- zeros under mounting 0
+abbrev pub zeroRow : List ℕ
+zeroRow = 0x47 ∷ 0x4F ∷ 0x46 ∷ 0x01 ∷ 0x00 ∷ 0x00 ∷ 0x00 ∷ 0x00 ∷ 0x00 ∷ 0x00 ∷ 0x00 ∷ 0x00 ∷ 0x00 ∷ 0x00 ∷ 0x00 ∷ 0x00 ∷ 0x00 ∷ 0x00 ∷ []
+
+-- with a minus sign on one axis
+abbrev pub minusRow : ℕ → List ℕ
+minusRow axis = set zeroRow (9 + 4 * axis) 0x80
+
+-- zeros are accepted, and 5 for a minus zero on any axis; minus zeros are written as zeros
+pub bench-zeros
+    : (map (λ (s : List ℕ). refusalOf (readChecks s)) (zeroRow ∷ minusRow 0 ∷ minusRow 1 ∷ minusRow 2 ∷ []) ≡ 0 ∷ 5 ∷ 5 ∷ 5 ∷ [])
+    × (recordOf (record { mounting = 0; vector = vector minusNought minusNought minusNought }) ≡ zeroRow)
+unfolding refusalOf recordChecks hasMark vectorAt storableVector storable isMinusZero recordOf plain ofBits toBits
+bench-zeros = (refl, refl)
+
+-- restored under 2, which is +X-Y-Z, into any estimator: the signs are the turning's
+pub bench-signs : (b : Bias) → restoredOf b zeroRow 2 .offset ≡ vector nought minusNought minusNought
+unfolding reframedOf inverseOf composeOf first same nameOf mountingOf vectorAt neg ofBits
+bench-signs b = refl

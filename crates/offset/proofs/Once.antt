@@ -1,4 +1,4 @@
--- Restoring twice equals restoring once, and changes nothing but the offset. Assumes nothing.
+-- Restoring twice equals restoring once, a start that is tried again gives the same offset, and nothing else changes. Assumes nothing.
 use Prim.Native.Nat.{ℕ, zero, suc}
 use mathlib.Core.Path.{_≡_, refl, ap, ap₂, sym, subst, _∙_}
 use mathlib.Core.Bool.{true, _&&_}
@@ -7,13 +7,18 @@ use lib.Ieee.Scale.{finite}
 use Rattle.answer.proofs.Tests.{both}
 use Rattle.answer.specs.Refusals.{refusalOf, accepted}
 use Rattle.bias.specs.declared.Bias.{Bias}
+use Rattle.bias.specs.declared.Change.{Change}
 use Rattle.bias.specs.Estimator.{finiteBias}
 use Rattle.vector.specs.Vectors.{finiteVector}
 use Rattle.bias.specs.Settings.{finiteSettings}
 use Rattle.remap.proofs.Composing.{undone}
+use Rattle.offset.specs.declared.Offset.{Offset}
 use Rattle.offset.specs.Record.{mountingAt, vectorAt}
-use Rattle.offset.specs.Restore.{reframedOf, restoreChecks, restoredOf, RestoredOnce, Untouched, OnlyTheOffset, SameMounting}
+use Rattle.offset.specs.Restore.{reframedOf, restoreChecks, restoredOf, Restores}
+use Rattle.offset.specs.Restore.{RestoredOnce, Retried, WrittenRestored, Untouched, OnlyTheOffset, SameMounting}
+use Rattle.offset.proofs.Storable.{storable-finites}
 use Rattle.offset.proofs.Accepting.{good, good-passes, is-new}
+use Rattle.offset.proofs.ReadWritten.{same-offset}
 use Rattle.offset.proofs.Turning.{finite-reframed}
 
 -- ---- twice
@@ -28,15 +33,15 @@ module _ (b : Bias) (s : List ℕ) (m : ℕ) where
   -- so the same record is accepted again
   accepted-again : refusalOf (restoreChecks b s m) ≡ 0 → refusalOf (restoreChecks (restoredOf b s m) s m) ≡ 0
   accepted-again e =
-      let g = good s m (finiteBias b) e in
-      good-passes s m (finiteBias (restoredOf b s m))
+      let g = good _ _ s m (finiteBias b) e in
+      good-passes _ _ s m (finiteBias (restoredOf b s m))
       (record {
         size = g .size;
         mark = g .mark;
         version = g .version;
         other = g .other;
         mounting = g .mounting;
-        state = restored-finite (g .state) (g .floats);
+        state = restored-finite (g .state) (storable-finites (vectorAt s) (g .floats));
         floats = g .floats;
       })
 
@@ -55,6 +60,15 @@ restored-once b s m first second p q =
     let a = again b s m (refusalOf (restoreChecks b s m)) refl (first .state) (p .holds) in
     (q .holds ∙ a .0, q .number ∙ a .1 ∙ sym (p .number))
 
+-- ---- again
+
+pub restored-offset : (b : Bias) (s : List ℕ) (m : ℕ) (r : Change) → Restores b s m r → r .number ≡ 0
+    → r .state .offset ≡ reframedOf (vectorAt s) (mountingAt s) m
+restored-offset b s m r p z = ap (λ (x : Bias). x .offset) (is-new _ _ (p .holds) (sym (p .number) ∙ z))
+
+pub retried : Retried
+retried b c s m first second p q y z = restored-offset c s m second q z ∙ sym (restored-offset b s m first p y)
+
 -- ---- only the offset
 
 untouched : (b : Bias) (s : List ℕ) (m n : ℕ) → Untouched b (accepted n (restoredOf b s m) b)
@@ -71,4 +85,13 @@ unfolding reframedOf
 same-mounting b s r p z =
     let n = mountingAt s in
     let e = sym (p .number) ∙ z in
-    ap (λ (x : Bias). x .offset) (is-new _ _ (p .holds) e) ∙ undone n (vectorAt s) (good s n (finiteBias b) e .mounting) .2
+    ap (λ (x : Bias). x .offset) (is-new _ _ (p .holds) e) ∙ undone n (vectorAt s) (good _ _ s n (finiteBias b) e .mounting) .2
+
+-- ---- what was written
+
+pub written-restored : WrittenRestored
+written-restored o b s after m r f w p z =
+    let there = is-new _ _ (w .holds) (sym (w .number)) in
+    restored-offset b after m r p z
+    ∙ ap (λ (t : List ℕ). reframedOf (vectorAt t) (mountingAt t) m) there
+    ∙ ap (λ (q : Offset). reframedOf (q .vector) (q .mounting) m) (same-offset o f)

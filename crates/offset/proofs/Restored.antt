@@ -12,28 +12,33 @@ use Rattle.bias.specs.declared.Change.{Change}
 use Rattle.bias.specs.Estimator.{finiteBias}
 use Rattle.bias.specs.Calls.{offsetChecks, SetsOffset}
 use Rattle.offset.specs.declared.Offset.{Offset}
-use Rattle.offset.specs.Record.{mountingAt, vectorAt, offsetAt, recordChecks}
+use Rattle.offset.specs.Record.{mountingAt, vectorAt, offsetAt, recordChecks, recordLength, recordVersion}
 use Rattle.offset.specs.Restore.{reframedOf, restoreChecks, restoredOf, Restores}
+use Rattle.offset.proofs.Storable.{storable-finites}
 use Rattle.offset.proofs.Accepting.{Good, good}
 use Rattle.offset.proofs.Turning.{finite-reframed}
 
 -- f is whether the state is finite, n the refusal
-module _ (b : Bias) (s : List ℕ) (m : ℕ) {f : Bool} {n : ℕ} (ef : f ≡ finiteBias b) (en : n ≡ refusalOf (recordChecks s m f)) where
+module _ (b : Bias) (s : List ℕ) (m : ℕ) {f : Bool} {n : ℕ}
+    (ef : f ≡ finiteBias b) (en : n ≡ refusalOf (recordChecks recordLength recordVersion s m f)) where
   pub number : n ≡ refusalOf (restoreChecks b s m)
-  number = en ∙ ap (λ (g : Bool). refusalOf (recordChecks s m g)) ef
+  number = en ∙ ap (λ (g : Bool). refusalOf (recordChecks recordLength recordVersion s m g)) ef
 
   module _ (z : n ≡ 0) where
-    pub checked : Good s m (finiteBias b)
-    checked = good s m (finiteBias b) (sym number ∙ z)
+    checked : Good recordLength recordVersion s m (finiteBias b)
+    checked = good _ _ s m (finiteBias b) (sym number ∙ z)
+
+    finites : finiteVector (vectorAt s) ≡ true
+    finites = storable-finites (vectorAt s) (checked .floats)
 
     -- setting a turned offset is not refused a second time
     unrefused : refusalOf (offsetChecks b (reframedOf (vectorAt s) (mountingAt s) m)) ≡ 0
     unrefused =
-        passes 5 [] (rw (checked .state, finite-reframed (vectorAt s) (mountingAt s) m, checked .floats)) ∙ all-pass
+        passes 5 [] (rw (checked .state, finite-reframed (vectorAt s) (mountingAt s) m, finites)) ∙ all-pass
 
     module _ {o : Offset} (eo : o ≡ offsetAt s) where
       pub turnable : (o .mounting < 24) × (m < 24) × (finiteVector (o .vector) ≡ true)
-      turnable = rw eo (checked .mounting, checked .other, checked .floats)
+      turnable = rw eo (checked .mounting, checked .other, finites)
 
       pub restored : {v : Vector} {r : Change} → v ≡ reframedOf (o .vector) (o .mounting) m → SetsOffset b v r → Restores b s m r
       restored {v} {r} e p =

@@ -6,21 +6,21 @@ use mathlib.Core.Bool.{true, not}
 use mathlib.Core.List.{List, [], _∷_}
 use lib.Dec.{eqb}
 use lib.ListN.{length, getD}
-use lib.Ieee.{binary32, ofBits, toBits}
+use lib.Ieee.{Float, binary32}
 use lib.Ieee.Bits.{toBits-ofBits}
-use lib.Ieee.Scale.{finite}
 use denote.Floats.{passes as true-T}
 use borrow.Author.Tests.{eqb-true, le-ltb}
 use Rattle.answer.proofs.Tests.{agrees, all-three}
 use Rattle.answer.specs.Refusals.{refusalOf}
 use Rattle.answer.proofs.Answering.{passes, all-pass}
-use Rattle.vector.specs.Vectors.{finiteVector}
-use Rattle.wire.specs.Wire.{bitsAt, floatOf}
+use Rattle.wire.specs.Wire.{bitsAt, floatOf, bitsOf}
 use Rattle.wire.proofs.Laws.{finite-no-nan, spell, spelled}
 use Rattle.offset.specs.declared.Offset.{Offset}
 use Rattle.offset.specs.declared.RecordRead.the-variants.{Read}
-use Rattle.offset.specs.Record.{hasMark, mountingAt, vectorAt, offsetAt, bytesOf, recordOf, writeChecks, Reads}
-use Rattle.offset.specs.RoundTrip.{Bytes, WrittenRead}
+use Rattle.offset.specs.Record.{hasMark, mountingAt, vectorAt, offsetAt, storable, storableVector, Reads}
+use Rattle.offset.specs.Record.{recordLength, recordVersion, writeChecks, bytesOf, floatBytes, recordOf}
+use Rattle.offset.specs.OneRecord.{Bytes, WrittenRead}
+use Rattle.offset.proofs.Storable.{storable-finite, storable-finites, storable-stays}
 use Rattle.offset.proofs.Accepting.{Good, good, is-new}
 
 -- four bytes are those of the pattern that they make
@@ -38,19 +38,21 @@ bytes-back a b c d ha hb hc hd =
     cc
 
 module _ (s : List ℕ) (bytes : Bytes s) where
-  -- so are the four bytes at a place, where the float that they make is finite
-  float-back : (at : ℕ) → finite (ofBits binary32 (bitsAt s at)) ≡ true
-      → bytesOf (toBits binary32 (ofBits binary32 (bitsAt s at))) ≡ getD s at 0 ∷ getD s (at + 1) 0 ∷ getD s (at + 2) 0 ∷ getD s (at + 3) 0 ∷ []
+  -- so are the four bytes at a place, where a record may hold the float that they make
+  float-back : (at : ℕ) → storable (floatOf (bitsAt s at)) ≡ true
+      → floatBytes (floatOf (bitsAt s at)) ≡ getD s at 0 ∷ getD s (at + 1) 0 ∷ getD s (at + 2) 0 ∷ getD s (at + 3) 0 ∷ []
   float-back at e =
-      ap bytesOf
-      (toBits-ofBits binary32 (bitsAt s at) (omega (arith, bytes at, bytes (at + 1), bytes (at + 2), bytes (at + 3))) (finite-no-nan _ (true-T _ e)))
+      let n = bitsAt s at in
+      let whole = finite-no-nan (floatOf n) (true-T _ (storable-finite (floatOf n) e)) in
+      ap (λ (y : Float). bytesOf (bitsOf y)) (storable-stays (floatOf n) e)
+      ∙ ap bytesOf (toBits-ofBits binary32 n (omega (arith, bytes at, bytes (at + 1), bytes (at + 2), bytes (at + 3))) whole)
       ∙ bytes-back (getD s at 0) _ _ _ (bytes at) (bytes (at + 1)) (bytes (at + 2)) (bytes (at + 3))
 
-  record-back : Good s 0 true → recordOf (offsetAt s) ≡ s
-  unfolding recordOf hasMark vectorAt finiteVector
+  pub record-back : Good recordLength recordVersion s 0 true → recordOf (offsetAt s) ≡ s
+  unfolding recordOf hasMark vectorAt storableVector
   record-back g =
       let m = all-three (eqb (getD s 0 0) 0x47) (eqb (getD s 1 0) 0x4F) (eqb (getD s 2 0) 0x46) (g .mark) in
-      let f = all-three (finite (floatOf (bitsAt s 6))) (finite (floatOf (bitsAt s 10))) (finite (floatOf (bitsAt s 14))) (g .floats) in
+      let f = all-three (storable (floatOf (bitsAt s 6))) (storable (floatOf (bitsAt s 10))) (storable (floatOf (bitsAt s 14))) (g .floats) in
       let e₀ = eqb-true (getD s 0 0) 0x47 (m .0) in
       let e₁ = eqb-true (getD s 1 0) 0x4F (m .1) in
       let e₂ = eqb-true (getD s 2 0) 0x46 (m .2) in
@@ -63,23 +65,23 @@ module _ (s : List ℕ) (bytes : Bytes s) where
       spelt ∙ sym (spelled 18 s 0 (g .size))
 
 -- what was read is accepted
-read-passes : (s before : List ℕ) → Good s 0 true → length before ≡ 18 → refusalOf (writeChecks (offsetAt s) (length before)) ≡ 0
-read-passes s before g h =
-    passes 1 _ (agrees (length before) 18 h)
+read-passes : (s : List ℕ) (room : ℕ) → Good recordLength recordVersion s 0 true → room ≡ recordLength → refusalOf (writeChecks (offsetAt s) room) ≡ 0
+read-passes s room g h =
+    passes 1 _ (agrees room recordLength h)
     ∙ passes 4 _ (le-ltb 23 (mountingAt s) (omega (arith, g .mounting)))
-    ∙ passes 5 _ (ap not (g .floats))
+    ∙ passes 5 _ (ap not (storable-finites (vectorAt s) (g .floats)))
     ∙ all-pass
 
 module _ (s : List ℕ) (o : Offset) (e : Reads s (Read o)) where
-  read-good : Good s 0 true
-  read-good = good s 0 true (sym (e .number))
+  pub read-good : Good recordLength recordVersion s 0 true
+  read-good = good _ _ s 0 true (sym (e .number))
 
-  read-offset : o ≡ offsetAt s
+  pub read-offset : o ≡ offsetAt s
   read-offset = let q : Read o ≡ Read (offsetAt s) = is-new _ _ (e .exact) (sym (e .number)) in cc
 
 pub written-read : WrittenRead
 written-read s before after o n bytes h e w =
     let g = read-good s o e in
     let r = read-offset s o e in
-    let z = ap (λ (p : Offset). refusalOf (writeChecks p (length before))) r ∙ read-passes s before g h in
+    let z = ap (λ (p : Offset). refusalOf (writeChecks p (length before))) r ∙ read-passes s (length before) g h in
     (w .number ∙ z, is-new _ _ (w .holds) z ∙ ap recordOf r ∙ record-back s bytes g)

@@ -2,11 +2,11 @@
 use Prim.Native.Nat.{ℕ}
 use native.Mathlib.Omega.{arith}
 use mathlib.Core.Path.{ap, refl}
-use mathlib.Core.Bool.{true, false, cond}
+use mathlib.Core.Bool.{false, cond}
 use mathlib.Core.List.{List, [], _∷_}
-use lib.IntN.{pos}
 use lib.ListN.{getD, set}
-use lib.Ieee.{Float, nan, inf, fin, ofBits, toBits}
+use lib.Ieee.{Float, nan, inf, fin, neg, ofBits, toBits}
+use Rattle.number.specs.Same.{plain, isMinusZero}
 use Rattle.number.proofs.Apart.{unlike}
 use Rattle.answer.specs.Refusals.{refusalOf}
 use Rattle.vector.specs.Vectors.{vector, finiteVector}
@@ -21,53 +21,62 @@ use Rattle.bias.specs.Settings.{finiteSettings}
 use Rattle.offset.specs.declared.Offset.{Offset}
 use Rattle.offset.specs.declared.RecordRead.{RecordRead}
 use Rattle.offset.specs.declared.RecordRead.the-variants.{Read, Refused}
-use Rattle.offset.specs.Record.{hasMark, vectorAt, recordOf, recordChecks, Reads, Writes}
+use Rattle.offset.specs.Record.{hasMark, vectorAt, storable, storableVector, recordOf, recordChecks, Reads, Writes}
 use Rattle.offset.specs.Restore.{reframedOf, Restores}
-use Rattle.offset.proofs.Bench.{one, minusTwo, half, recordWith, row, rowOffset}
+use Rattle.offset.proofs.Bench.{one, minusTwo, half, recordWith, row, rowOffset, nought, minusNought, zeroRow, minusRow}
 
 abbrev mountingIn : RecordRead → ℕ
 mountingIn (Read o) = o .mounting
 mountingIn (Refused n) = 0
 
--- the mounting left out; mounting 24 taken; a record of version 2 taken; one of version 1 refused for it; a number that no check gives
+-- the mounting left out; mounting 24 taken; a record of version 2 taken; one of version 1 refused for it; a number that no check gives;
+-- a minus zero taken as whatever it be, on each axis
 pub of-read-offset
     : (Reads row (Read (record { mounting = 0; vector = vector one minusTwo half })) → ⊥)
     × (Reads (recordWith 24 (0x3F ∷ [])) (Read (record { mounting = 24; vector = vector one minusTwo half })) → ⊥)
     × (Reads (set row 3 2) (Read rowOffset) → ⊥)
     × (Reads row (Refused 3) → ⊥)
     × (Reads row (Refused 5) → ⊥)
-unfolding refusalOf recordChecks hasMark vectorAt finiteVector ofBits
+    × ((o : Offset) → Reads (minusRow 0) (Read o) → ⊥)
+    × ((o : Offset) → Reads (minusRow 1) (Read o) → ⊥)
+    × ((o : Offset) → Reads (minusRow 2) (Read o) → ⊥)
+unfolding refusalOf recordChecks hasMark vectorAt storableVector storable isMinusZero ofBits
 of-read-offset = (
   λ h. unlike 0 11 refl (ap mountingIn (h .exact)),
   λ h. let e = h .number in omega arith,
   λ h. let e = h .number in omega arith,
   λ h. let e = h .number in omega arith,
   λ h. let e = h .number in omega arith,
+  λ o h. let e = h .number in omega arith,
+  λ o h. let e = h .number in omega arith,
+  λ o h. let e = h .number in omega arith,
 )
 
 abbrev blank : List ℕ
 blank = 0 ∷ 0 ∷ 0 ∷ 0 ∷ 0 ∷ 0 ∷ 0 ∷ 0 ∷ 0 ∷ 0 ∷ 0 ∷ 0 ∷ 0 ∷ 0 ∷ 0 ∷ 0 ∷ 0 ∷ 0 ∷ []
 
 abbrev zeros : Float → Offset
-zeros x = record { mounting = 0; vector = vector x (fin false 0 (pos 0)) (fin false 0 (pos 0)) }
+zeros x = record { mounting = 0; vector = vector x nought nought }
 
 abbrev twentyFour : Offset
 twentyFour = record { mounting = 24; vector = rowOffset .vector }
 
--- nothing written; a refused call that writes; an infinity taken; mounting 24 written; minus zero written as zero
+-- nothing written; a refused call that writes; an infinity taken; mounting 24 written; a minus zero written as it stands; a minus zero refused
 pub of-write-offset
     : (Writes rowOffset blank blank 0 → ⊥)
     × (Writes (zeros (inf false)) blank row 5 → ⊥)
     × (Writes (zeros (inf false)) blank blank 0 → ⊥)
     × (Writes twentyFour blank (recordOf twentyFour) 0 → ⊥)
-    × (Writes (zeros (fin true 0 (pos 0))) blank (recordOf (zeros (fin false 0 (pos 0)))) 0 → ⊥)
-unfolding refusalOf recordOf finiteVector toBits
+    × (Writes (zeros minusNought) blank (minusRow 0) 0 → ⊥)
+    × (Writes (zeros minusNought) blank blank 5 → ⊥)
+unfolding refusalOf recordOf plain finiteVector toBits
 of-write-offset = (
   λ h. unlike 0 0x47 refl (ap (λ (l : List ℕ). getD l 0 0) (h .holds)),
   λ h. unlike 0x47 0 refl (ap (λ (l : List ℕ). getD l 0 0) (h .holds)),
   λ h. let e = h .number in omega arith,
   λ h. let e = h .number in omega arith,
-  λ h. unlike 0 0x80 refl (ap (λ (l : List ℕ). getD l 9 0) (h .holds)),
+  λ h. unlike 0x80 0 refl (ap (λ (l : List ℕ). getD l 9 0) (h .holds)),
+  λ h. let e = h .number in omega arith,
 )
 
 -- an estimator with a timer that runs, and an offset of its own
@@ -90,16 +99,22 @@ minus nan = 0
 minus (inf s) = 0
 minus (fin s m e) = cond s 1 0
 
--- the offset as it was recorded; the recorded mounting applied, not undone; the timer cleared; a refused call that restores
+-- the offset as it was recorded; the recorded mounting applied, not undone; the timer cleared; a refused call that restores;
+-- the turning's sign lost on a zero; a minus zero taken, whatever is left
 pub of-restore
     : (Restores running row 0 (gives (withOffset running (vector one minusTwo half)) 0) → ⊥)
     × (Restores running row 0 (gives (withOffset running (vector minusTwo half one)) 0) → ⊥)
     × (Restores running row 0 (gives (withOffset (withTimer running 0) (vector half one minusTwo)) 0) → ⊥)
     × (Restores running row 24 (gives (withOffset running (vector half one minusTwo)) 4) → ⊥)
-unfolding refusalOf recordChecks hasMark vectorAt finiteVector finiteBias finiteSettings reframedOf inverseOf composeOf first same nameOf mountingOf ofBits
+    × (Restores running zeroRow 2 (gives (withOffset running (vector nought nought nought)) 0) → ⊥)
+    × ((b : Bias) → Restores running (minusRow 1) 0 (gives b 0) → ⊥)
+unfolding refusalOf recordChecks hasMark vectorAt storableVector storable isMinusZero ofBits
+    finiteVector finiteBias finiteSettings reframedOf inverseOf composeOf first same nameOf mountingOf neg
 of-restore = (
   λ h. unlike 1 0 refl (ap (λ (b : Bias). minus (b .offset .y)) (h .holds)),
   λ h. unlike 1 0 refl (ap (λ (b : Bias). minus (b .offset .x)) (h .holds)),
   λ h. unlike 0 7 refl (ap (λ (b : Bias). b .timer) (h .holds)),
   λ h. unlike 1 0 refl (ap (λ (b : Bias). minus (b .offset .z)) (h .holds)),
+  λ h. unlike 0 1 refl (ap (λ (b : Bias). minus (b .offset .y)) (h .holds)),
+  λ b h. let e = h .number in omega arith,
 )

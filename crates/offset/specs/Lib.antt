@@ -1,5 +1,5 @@
 pub mod Record
+pub mod OneRecord
 pub mod Restore
-pub mod RoundTrip
 pub mod Exact
 pub mod Determined

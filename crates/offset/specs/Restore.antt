@@ -1,4 +1,5 @@
 -- 01, "Bias": restoring under mounting B sets the estimator's offset to the recorded one turned by the inverse of the recorded mounting and then by B.
+-- The record has plus zeros, so a restored zero's sign is the turning's.
 use Prim.Native.Nat.{ℕ}
 use mathlib.Core.Path.{_≡_}
 use mathlib.Core.List.{List}
@@ -10,14 +11,16 @@ use Rattle.remap.specs.Composition.{inverseOf}
 use Rattle.bias.specs.declared.Bias.{Bias}
 use Rattle.bias.specs.declared.Change.{Change}
 use Rattle.bias.specs.Estimator.{finiteBias, withOffset}
-use Rattle.offset.specs.Record.{mountingAt, vectorAt, recordChecks}
+use Rattle.offset.specs.declared.Offset.{Offset}
+use Rattle.offset.specs.Record.{mountingAt, vectorAt, recordChecks, recordLength, recordVersion, Writes}
+use Rattle.offset.specs.OneRecord.{Singles, plainVector}
 
 unfoldable pub reframedOf : Vector → ℕ → ℕ → Vector
 reframedOf v from to = turnOf to (turnOf (inverseOf from) v)
 
 -- either mounting number under 4, the floats of state and record under 5
 abbrev pub restoreChecks : Bias → List ℕ → ℕ → List Check
-restoreChecks b s m = recordChecks s m (finiteBias b)
+restoreChecks b s m = recordChecks recordLength recordVersion s m (finiteBias b)
 
 abbrev pub restoredOf : Bias → List ℕ → ℕ → Bias
 restoredOf b s m = withOffset b (reframedOf (vectorAt s) (mountingAt s) m)
@@ -32,6 +35,18 @@ abbrev pub RestoredOnce : Type 0
 RestoredOnce =
     (b : Bias) (s : List ℕ) (m : ℕ) (first second : Change) → Restores b s m first → Restores (first .state) s m second
     → (second .state ≡ first .state) × (second .number ≡ first .number)
+
+-- a start that is tried again: whatever became of the estimator in between, the same record gives the same offset
+abbrev pub Retried : Type 0
+Retried =
+    (b c : Bias) (s : List ℕ) (m : ℕ) (first second : Change) → Restores b s m first → Restores c s m second
+    → first .number ≡ 0 → second .number ≡ 0 → second .state .offset ≡ first .state .offset
+
+-- what was written is restored with plus zeros, turned: a zero is a minus zero where the turning changes a sign
+abbrev pub WrittenRestored : Type 0
+WrittenRestored =
+    (o : Offset) (b : Bias) (s after : List ℕ) (m : ℕ) (r : Change) → Singles (o .vector) → Writes o s after 0 → Restores b after m r
+    → r .number ≡ 0 → r .state .offset ≡ reframedOf (plainVector (o .vector)) (o .mounting) m
 
 -- all but the offset stays, whether the call is accepted or refused
 pub record Untouched (b after : Bias) : Type 0 where

@@ -1,4 +1,5 @@
 // The 18-byte record of a gyroscope offset: written, read, and restored into the bias estimator under any mounting.
+// A zero stands in it with a plus sign, so that one offset has one record.
 pub mod restoring; // restoring.rt: restore
 
 pub use restoring::restore;
@@ -6,8 +7,12 @@ use vector::Vector;
 ghost use mathlib.Core.Path.{_≡_};
 ghost use lib.ListN.{length};
 ghost use Rattle.answer.specs.Refusals.{refusalOf};
-ghost use Rattle.vector.specs.Vectors.{finiteVector};
-ghost use Rattle.offset.specs.Record.{hasMark, vectorAt, offsetAt, recordOf, recordChecks, writeChecks, Reads, Writes};
+ghost use Rattle.wire.specs.Wire.{floatOf};
+ghost use Rattle.offset.specs.Record.{hasMark, storable, storableVector, vectorAt, offsetAt, recordOf, recordChecks, writeChecks, Reads, Writes};
+
+const LENGTH: usize = 18;
+
+const VERSION: u16 = 1;
 
 // An offset, in the frame of a mounting.
 pub struct Offset {
@@ -23,38 +28,46 @@ pub enum RecordRead {
 
 // Whether the record begins with `GOF`.
 fn has_mark(bytes: &[u8]) -> bool
-    requires { ⌜ length (now bytes) ≡ 18 ⌝ }
     ensures { λ r. ⌜ r ≡ hasMark (now (bytes .entry)) ⌝ }
 {
-    (bytes[0] == b'G') & (bytes[1] == b'O') & (bytes[2] == b'F')
+    (wire::u8_at(bytes, 0) == b'G')
+        & (wire::u8_at(bytes, 1) == b'O')
+        & (wire::u8_at(bytes, 2) == b'F')
 }
 
-// Whether the three floats are finite, by their bits: a float is made only of bits that passed.
-fn are_finite(bytes: &[u8]) -> bool
-    ensures { λ r. ⌜ r ≡ finiteVector (vectorAt (now (bytes .entry))) ⌝ }
+// Whether a record may hold a float, by its bits: a float is made only of bits that passed.
+fn is_storable(bits: u32) -> bool
+    ensures { λ r. ⌜ r ≡ storable (floatOf bits) ⌝ }
 {
-    wire::is_finite_bits(wire::bits_at(bytes, 6))
-        & wire::is_finite_bits(wire::bits_at(bytes, 10))
-        & wire::is_finite_bits(wire::bits_at(bytes, 14))
+    wire::is_finite_bits(bits) & (bits != 0x8000_0000)
 }
 
-// The number of a record's checks, beside one more mounting number and whether the caller's own floats are finite.
-fn record_refusal(bytes: &[u8], mounting: u8, finite: bool) -> u8
-    ensures { λ r. ⌜ r ≡ refusalOf (recordChecks (now (bytes .entry)) mounting finite) ⌝ }
+// Whether it may hold the three that it does.
+fn are_storable(bytes: &[u8]) -> bool
+    ensures { λ r. ⌜ r ≡ storableVector (vectorAt (now (bytes .entry))) ⌝ }
 {
-    if bytes.len() != 18 {
+    is_storable(wire::bits_at(bytes, 6))
+        & is_storable(wire::bits_at(bytes, 10))
+        & is_storable(wire::bits_at(bytes, 14))
+}
+
+// The number of a record's checks, of whatever length and version, beside one more mounting number and whether the caller's own floats are finite.
+fn record_refusal(bytes: &[u8], length: usize, version: u16, mounting: u8, finite: bool) -> u8
+    ensures { λ r. ⌜ r ≡ refusalOf (recordChecks length version (now (bytes .entry)) mounting finite) ⌝ }
+{
+    if bytes.len() != length {
         return 1;
     }
     if !has_mark(bytes) {
         return 2;
     }
-    if wire::u16_at(bytes, 3) != 1 {
+    if wire::u16_at(bytes, 3) != version {
         return 3;
     }
-    if (mounting > 23) | (bytes[5] > 23) {
+    if (mounting > 23) | (wire::u8_at(bytes, 5) > 23) {
         return 4;
     }
-    if !(finite & are_finite(bytes)) {
+    if !(finite & are_storable(bytes)) {
         return 5;
     }
     0
@@ -62,13 +75,12 @@ fn record_refusal(bytes: &[u8], mounting: u8, finite: bool) -> u8
 
 // What an accepted record holds.
 fn offset_at(bytes: &[u8]) -> Offset
-    requires { ⌜ length (now bytes) ≡ 18 ⌝ }
     ensures { λ r. ⌜ r ≡ offsetAt (now (bytes .entry)) ⌝ }
 {
     let x = wire::float_of(wire::bits_at(bytes, 6));
     let y = wire::float_of(wire::bits_at(bytes, 10));
     let z = wire::float_of(wire::bits_at(bytes, 14));
-    let mounting = bytes[5];
+    let mounting = wire::u8_at(bytes, 5);
     let vector = Vector::new(x, y, z);
     Offset { mounting, vector }
 }
@@ -77,7 +89,7 @@ fn offset_at(bytes: &[u8]) -> Offset
 pub fn read_offset(bytes: &[u8]) -> RecordRead
     ensures { λ r. ⌜ Reads (now (bytes .entry)) r ⌝ }
 {
-    let number = record_refusal(bytes, 0, true);
+    let number = record_refusal(bytes, LENGTH, VERSION, 0, true);
     if number != 0 {
         return RecordRead::Refused(number);
     }
@@ -85,7 +97,7 @@ pub fn read_offset(bytes: &[u8]) -> RecordRead
     RecordRead::Read(offset)
 }
 
-// Stores the record where it has just room.
+// Stores the record where it has just room. x + 0.0 is x with a plus zero for a minus zero.
 fn put_offset(offset: Offset, bytes: &mut [u8])
     requires { ⌜ length (now bytes) ≡ 18 ⌝ }
     ensures { λ _. ⌜ now (bytes .exit) ≡ recordOf offset ⌝ }
@@ -94,18 +106,18 @@ fn put_offset(offset: Offset, bytes: &mut [u8])
     bytes[0] = b'G';
     bytes[1] = b'O';
     bytes[2] = b'F';
-    wire::put_u16(bytes, 3, 1);
+    wire::put_u16(bytes, 3, VERSION);
     bytes[5] = offset.mounting;
-    wire::put_bits(bytes, 6, wire::bits_of(vector.x));
-    wire::put_bits(bytes, 10, wire::bits_of(vector.y));
-    wire::put_bits(bytes, 14, wire::bits_of(vector.z));
+    wire::put_bits(bytes, 6, wire::bits_of(vector.x + 0.0));
+    wire::put_bits(bytes, 10, wire::bits_of(vector.y + 0.0));
+    wire::put_bits(bytes, 14, wire::bits_of(vector.z + 0.0));
 }
 
 // The number of a write's checks, of what is written and of the room for it.
 fn write_refusal(offset: Offset, room: usize) -> u8
     ensures { λ r. ⌜ r ≡ refusalOf (writeChecks offset room) ⌝ }
 {
-    if room != 18 {
+    if room != LENGTH {
         return 1;
     }
     if offset.mounting > 23 {

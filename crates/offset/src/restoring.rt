@@ -1,4 +1,6 @@
 // A recorded offset set into the bias estimator, turned out of the recorded mounting and into another.
+use super::LENGTH;
+use super::VERSION;
 use super::offset_at;
 use super::record_refusal;
 use answer::Answer;
@@ -41,7 +43,7 @@ fn reframed(vector: Vector, from: u8, to: u8) -> Vector
 pub fn restore(bias: Bias, bytes: &[u8], mounting: u8) -> Change
     ensures { λ r. ⌜ Restores bias (now (bytes .entry)) mounting r ⌝ }
 {
-    let number = record_refusal(bytes, mounting, bias.is_finite());
+    let number = record_refusal(bytes, LENGTH, VERSION, mounting, bias.is_finite());
     if number != 0 {
         return Change {
             state: bias,

@@ -10,19 +10,20 @@ use Rattle.offset.proofs.put_offset.Tie as tie
 same-length : tie.Need-same-length
 same-length c =
     let z = c .before .before in
-    let y = z .before .before .before .before .before in
-    let x = y .before .before .before .before .before in
-    let v = x .before .before .before .before .before in
+    let y = z .before .before .before .before .before .before in
+    let x = y .before .before .before .before .before .before in
+    let v = x .before .before .before .before .before .before in
     z .put-bits3 .kept .0 ∙ y .put-bits2 .kept .0 ∙ x .put-bits .kept .0 ∙ simp length-set (v .put-u16 .kept .0 ∙ simp length-set)
 
 returns : tie.Need-returns
 returns c =
     let z = c .before .before in
-    let y = z .before .before .before .before .before in
-    let x = y .before .before .before .before .before in
-    let v = x .before .before .before .before .before in
+    let y = z .before .before .before .before .before .before in
+    let x = y .before .before .before .before .before .before in
+    let v = x .before .before .before .before .before .before in
     let s = v .before .before .before .before in
-    puts (s .args .offset) (s .args .bytes .now) (s .pre) (v .put-u16 .ensures)
+    let known = x .before .before .struct-known .given in
+    puts (s .args .offset) (s .args .bytes .now) (record { x = known .0; y = known .1 .0; z = known .1 .1 .0 }) (s .pre) (v .put-u16 .ensures)
     (x .before .bits-of .ensures) (x .put-bits .ensures) (y .before .bits-of2 .ensures) (y .put-bits2 .ensures)
     (z .before .bits-of3 .ensures) (z .put-bits3 .ensures)
 

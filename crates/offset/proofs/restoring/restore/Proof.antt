@@ -1,7 +1,7 @@
 -- `offset::restoring::restore` meets its contract: refused with the record's number, or the turned offset is set. Assumes nothing.
 use native.Mathlib.Omega.{arith}
 use Rattle.answer.proofs.Answering.{stays}
-use Rattle.offset.proofs.Restored.{number, checked, turnable, restored}
+use Rattle.offset.proofs.Restored.{number, turnable, restored}
 use Rattle.offset.proofs.restoring.restore.Statement.{statement}
 use Rattle.offset.proofs.restoring.restore.Tie as tie
 
@@ -24,5 +24,4 @@ restore-spec =
     tie.close
     (tie.spec (λ c κs. tt) (λ c κs. tt)
     (λ c. stays _ _ _ (number _ _ _ (c .before .before .is-finite .ensures) (c .before .record-refusal .ensures)) (c .if1 .taken))
-    (λ c κs. checked _ _ _ (c .before .before .is-finite .ensures) (c .before .record-refusal .ensures) (c .if1 .left) .size) reframed-requires
-    (λ c κs. tt) returns-2)
+    (λ c κs. tt) reframed-requires (λ c κs. tt) returns-2)
