@@ -2,7 +2,8 @@
 pub mod Signs  -- the operations under a change of sign
 pub mod Same  -- floats that are the same number give results that are; on Signs
 pub mod Size  -- what the tests of `fabsf`, `is_larger` and `is_finite` say
-pub mod Plain  -- x + 0.0 is x without the sign of a zero; on Signs and Size
+pub mod Exact  -- a number that its format holds rounds to itself
+pub mod Plain  -- x + 0.0 is x without the sign of a zero; on Signs, Size and Exact
 pub mod Finite  -- a finite sum, difference or product shows finite operands
 pub mod Quotient  -- the quotient of two whole numbers is finite
 pub mod Unsigned  -- what the tests of `to_u32` say

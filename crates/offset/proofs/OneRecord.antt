@@ -14,12 +14,13 @@ use Rattle.answer.proofs.Answering.{gives}
 use Rattle.number.specs.Same.{plain}
 use Rattle.number.proofs.Same.{same-finite}
 use Rattle.number.proofs.Plain.{plain-fits, plain-plain}
+use Rattle.vector.specs.declared.Vector.{Vector}
 use Rattle.vector.specs.Vectors.{finiteVector}
 use Rattle.wire.specs.Wire.{bitsOf}
 use Rattle.offset.specs.declared.Offset.{Offset}
 use Rattle.offset.specs.declared.RecordRead.the-variants.{Refused}
 use Rattle.offset.specs.Record.{offsetAt, recordSaid, bytesOf, floatBytes, recordOf, writeChecks}
-use Rattle.offset.specs.OneRecord.{Singles, Bytes, SameOffset, Holds, SameBytes, SameNumbers, OneRecord}
+use Rattle.offset.specs.OneRecord.{Singles, Bytes, plainVector, SameOffset, Holds, SameBytes, SameNumbers, OneRecord}
 use Rattle.offset.proofs.Accepting.{good-passes, is-new}
 use Rattle.offset.proofs.ReadWritten.{same-offset, written-good}
 use Rattle.offset.proofs.WrittenRead.{record-back, read-good, read-offset}
@@ -27,7 +28,7 @@ use Rattle.offset.proofs.WrittenRead.{record-back, read-good, read-offs
 -- ---- the same numbers, the same bytes
 
 module _ (o p : Offset) (e : SameOffset o p) where
-  same-record : recordOf o ≡ recordOf p
+  pub same-record : recordOf o ≡ recordOf p
   unfolding recordOf
   same-record = rw (e .mounting, e .x .number, e .y .number, e .z .number)
 
@@ -46,6 +47,16 @@ same-bytes o p e s t after also n k l w u =
           let y = sym (w .number) ∙ z in
           is-new _ _ (w .holds) y ∙ same-record o p e ∙ sym (is-new _ _ (u .holds) (sym q ∙ y)),
     )
+
+-- an offset with plus zeros is the same
+pub with-plus-zeros : (o p : Offset) → p .mounting ≡ o .mounting → p .vector ≡ plainVector (o .vector) → SameOffset p o
+with-plus-zeros o p m e =
+    record {
+      mounting = m;
+      x = record { number = ap (λ (v : Vector). plain (v .x)) e ∙ plain-plain (o .vector .x) };
+      y = record { number = ap (λ (v : Vector). plain (v .y)) e ∙ plain-plain (o .vector .y) };
+      z = record { number = ap (λ (v : Vector). plain (v .z)) e ∙ plain-plain (o .vector .z) };
+    }
 
 -- ---- and the other way round
 
@@ -100,12 +111,7 @@ module _ (o : Offset) (f : Singles (o .vector)) (m : o .mounting < 24) where
       let same = same-offset o f in (
         offsetAt (recordOf o),
         gives recordSaid Refused (λ n. refl) _ _ refl (sym z) refl refl,
-        record {
-          mounting = ap (λ (q : Offset). q .mounting) same;
-          x = record { number = ap (λ (q : Offset). plain (q .vector .x)) same ∙ plain-plain (o .vector .x) };
-          y = record { number = ap (λ (q : Offset). plain (q .vector .y)) same ∙ plain-plain (o .vector .y) };
-          z = record { number = ap (λ (q : Offset). plain (q .vector .z)) same ∙ plain-plain (o .vector .z) };
-        },
+        with-plus-zeros o (offsetAt (recordOf o)) (ap (λ (q : Offset). q .mounting) same) (ap (λ (q : Offset). q .vector) same),
       )
 
 -- a record that holds the offset is the one that is written

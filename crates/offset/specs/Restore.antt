@@ -48,6 +48,12 @@ WrittenRestored =
     (o : Offset) (b : Bias) (s after : List ℕ) (m : ℕ) (r : Change) → Singles (o .vector) → Writes o s after 0 → Restores b after m r
     → r .number ≡ 0 → r .state .offset ≡ reframedOf (plainVector (o .vector)) (o .mounting) m
 
+-- saved in the frame that it is in, restored in that frame and saved again an offset gives the same bytes: it is turned no second time
+abbrev pub SavedAgain : Type 0
+SavedAgain =
+    (v : Vector) (m : ℕ) (b : Bias) (s saved t again : List ℕ) (r : Change) → Singles v → Writes (record { mounting = m; vector = v }) s saved 0
+    → Restores b saved m r → r .number ≡ 0 → Writes (record { mounting = m; vector = r .state .offset }) t again 0 → again ≡ saved
+
 -- all but the offset stays, whether the call is accepted or refused
 pub record Untouched (b after : Bias) : Type 0 where
   pub settings : after .settings ≡ b .settings
