@@ -9,6 +9,7 @@ pub mod WrittenRead  -- what was read is written; on Storable and Accepting
 pub mod OneRecord  -- one offset and mounting have one record; on ReadWritten and WrittenRead
 pub mod Turning  -- a vector that was checked is turned, and stays finite
 pub mod Restored  -- setting the turned offset is the restore; on Accepting and Turning
-pub mod Once  -- twice equals once, and changes the offset alone; on OneRecord and Turning
+pub mod Once  -- twice equals once, and changes the offset alone; on Accepting and Turning
+pub mod Saved  -- what was written is restored, and saved again; on OneRecord and Once
 pub mod Bench  -- the record's row of the bench table
 mod Wrong  -- wrong answers that the promises refuse

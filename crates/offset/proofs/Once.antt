@@ -3,7 +3,6 @@ use Prim.Native.Nat.{ℕ, zero, suc}
 use mathlib.Core.Path.{_≡_, refl, ap, ap₂, sym, subst, _∙_}
 use mathlib.Core.Bool.{true, _&&_}
 use mathlib.Core.List.{List}
-use lib.ListN.{length}
 use lib.Ieee.Scale.{finite}
 use Rattle.answer.proofs.Tests.{both}
 use Rattle.answer.specs.Refusals.{refusalOf, accepted}
@@ -13,15 +12,11 @@ use Rattle.bias.specs.Estimator.{finiteBias}
 use Rattle.vector.specs.Vectors.{finiteVector}
 use Rattle.bias.specs.Settings.{finiteSettings}
 use Rattle.remap.proofs.Composing.{undone}
-use Rattle.offset.specs.declared.Offset.{Offset}
 use Rattle.offset.specs.Record.{mountingAt, vectorAt}
-use Rattle.offset.specs.OneRecord.{plainVector}
 use Rattle.offset.specs.Restore.{reframedOf, restoreChecks, restoredOf, Restores}
-use Rattle.offset.specs.Restore.{RestoredOnce, Retried, WrittenRestored, SavedAgain, Untouched, OnlyTheOffset, SameMounting}
+use Rattle.offset.specs.Restore.{RestoredOnce, Retried, Untouched, OnlyTheOffset, SameMounting}
 use Rattle.offset.proofs.Storable.{storable-finites}
-use Rattle.offset.proofs.Accepting.{good, good-passes, writable, is-new}
-use Rattle.offset.proofs.ReadWritten.{same-offset}
-use Rattle.offset.proofs.OneRecord.{same-record, with-plus-zeros}
+use Rattle.offset.proofs.Accepting.{good, good-passes, is-new}
 use Rattle.offset.proofs.Turning.{finite-reframed}
 
 -- ---- twice
@@ -88,21 +83,4 @@ unfolding reframedOf
 same-mounting b s r p z =
     let n = mountingAt s in
     let e = sym (p .number) ∙ z in
-    ap (λ (x : Bias). x .offset) (is-new _ _ (p .holds) e) ∙ undone n (vectorAt s) (good _ _ s n (finiteBias b) e .mounting) .2
-
--- ---- what was written
-
-pub written-restored : WrittenRestored
-written-restored o b s after m r f w p z =
-    let there = is-new _ _ (w .holds) (sym (w .number)) in
-    restored-offset b after m r p z
-    ∙ ap (λ (t : List ℕ). reframedOf (vectorAt t) (mountingAt t) m) there
-    ∙ ap (λ (q : Offset). reframedOf (q .vector) (q .mounting) m) (same-offset o f)
-
-pub saved-again : SavedAgain
-unfolding reframedOf
-saved-again v m b s saved t again r f w p z u =
-    let o : Offset = record { mounting = m; vector = v } in
-    let back = undone m (plainVector v) (writable o (length s) (sym (w .number)) .mounting) .2 in
-    let same = with-plus-zeros o (record { mounting = m; vector = r .state .offset }) refl (written-restored o b s saved m r f w p z ∙ back) in
-    is-new _ _ (u .holds) (sym (u .number)) ∙ same-record _ o same ∙ sym (is-new _ _ (w .holds) (sym (w .number)))
+    restored-offset b s n r p z ∙ undone n (vectorAt s) (good _ _ s n (finiteBias b) e .mounting) .2
