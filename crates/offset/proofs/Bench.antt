@@ -1,13 +1,14 @@
 -- 01's bench table, the record's row, and what 02's P4 says of zeros, by evaluation. Assumes nothing.
 use Prim.Native.Nat.{ℕ, _+_, _*_}
 use mathlib.Core.Path.{_≡_, refl}
-use mathlib.Core.Bool.{true, false}
+use mathlib.Core.Bool.{true}
 use mathlib.Core.List.{List, [], _∷_, map}
-use lib.IntN.{pos, negsuc}
+use lib.IntN.{pos}
 use lib.ListN.{set}
 use lib.Ieee.{Float, fin, neg, ofBits, toBits}
 use Rattle.answer.specs.Refusals.{refusalOf}
 use Rattle.number.specs.Same.{plain, isMinusZero}
+use Rattle.number.proofs.Apart.{nought, minus-nought, one, half}
 use Rattle.vector.specs.Vectors.{vector}
 use Rattle.vector.specs.Mounting.{mountingOf}
 use Rattle.remap.specs.First.{first}
@@ -18,14 +19,8 @@ use Rattle.offset.specs.declared.Offset.{Offset}
 use Rattle.offset.specs.Record.{hasMark, vectorAt, offsetAt, storable, storableVector, recordOf, recordChecks, readChecks}
 use Rattle.offset.specs.Restore.{reframedOf, restoredOf}
 
-abbrev pub one : Float
-one = fin false 1 (pos 0)
-
 abbrev pub minusTwo : Float
 minusTwo = fin true 1 (pos 1)
-
-abbrev pub half : Float
-half = fin false 1 (negsuc 0)
 
 -- the record's bytes but the last, with a mounting and what comes last
 abbrev pub recordWith : ℕ → List ℕ → List ℕ
@@ -56,12 +51,6 @@ bench-restored b = refl
 
 -- ---- zeros
 
-abbrev pub nought : Float
-nought = fin false 0 (pos 0)
-
-abbrev pub minusNought : Float
-minusNought = fin true 0 (pos 0)
-
 -- zeros under mounting 0
 abbrev pub zeroRow : List ℕ
 zeroRow = 0x47 ∷ 0x4F ∷ 0x46 ∷ 0x01 ∷ 0x00 ∷ 0x00 ∷ 0x00 ∷ 0x00 ∷ 0x00 ∷ 0x00 ∷ 0x00 ∷ 0x00 ∷ 0x00 ∷ 0x00 ∷ 0x00 ∷ 0x00 ∷ 0x00 ∷ 0x00 ∷ []
@@ -73,11 +62,11 @@ minusRow axis = set zeroRow (9 + 4 * axis) 0x80
 -- zeros are accepted, and 5 for a minus zero on any axis; minus zeros are written as zeros
 pub bench-zeros
     : (map (λ (s : List ℕ). refusalOf (readChecks s)) (zeroRow ∷ minusRow 0 ∷ minusRow 1 ∷ minusRow 2 ∷ []) ≡ 0 ∷ 5 ∷ 5 ∷ 5 ∷ [])
-    × (recordOf (record { mounting = 0; vector = vector minusNought minusNought minusNought }) ≡ zeroRow)
+    × (recordOf (record { mounting = 0; vector = vector minus-nought minus-nought minus-nought }) ≡ zeroRow)
 unfolding refusalOf recordChecks hasMark vectorAt storableVector storable isMinusZero recordOf plain ofBits toBits
 bench-zeros = (refl, refl)
 
 -- restored under 2, which is +X-Y-Z, into any estimator: the signs are the turning's
-pub bench-signs : (b : Bias) → restoredOf b zeroRow 2 .offset ≡ vector nought minusNought minusNought
+pub bench-signs : (b : Bias) → restoredOf b zeroRow 2 .offset ≡ vector nought minus-nought minus-nought
 unfolding reframedOf inverseOf composeOf first same nameOf mountingOf vectorAt neg ofBits
 bench-signs b = refl

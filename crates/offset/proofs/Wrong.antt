@@ -7,7 +7,7 @@ use mathlib.Core.List.{List, [], _∷_}
 use lib.ListN.{getD, set}
 use lib.Ieee.{Float, nan, inf, fin, neg, ofBits, toBits}
 use Rattle.number.specs.Same.{plain, isMinusZero}
-use Rattle.number.proofs.Apart.{unlike}
+use Rattle.number.proofs.Apart.{unlike, nought, minus-nought, one, half}
 use Rattle.answer.specs.Refusals.{refusalOf}
 use Rattle.vector.specs.Vectors.{vector, finiteVector}
 use Rattle.vector.specs.Mounting.{mountingOf}
@@ -23,7 +23,7 @@ use Rattle.offset.specs.declared.RecordRead.{RecordRead}
 use Rattle.offset.specs.declared.RecordRead.the-variants.{Read, Refused}
 use Rattle.offset.specs.Record.{hasMark, vectorAt, storable, storableVector, recordOf, recordChecks, Reads, Writes}
 use Rattle.offset.specs.Restore.{reframedOf, Restores}
-use Rattle.offset.proofs.Bench.{one, minusTwo, half, recordWith, row, rowOffset, nought, minusNought, zeroRow, minusRow}
+use Rattle.offset.proofs.Bench.{minusTwo, recordWith, row, rowOffset, zeroRow, minusRow}
 
 abbrev mountingIn : RecordRead → ℕ
 mountingIn (Read o) = o .mounting
@@ -67,8 +67,8 @@ pub of-write-offset
     × (Writes (zeros (inf false)) blank row 5 → ⊥)
     × (Writes (zeros (inf false)) blank blank 0 → ⊥)
     × (Writes twentyFour blank (recordOf twentyFour) 0 → ⊥)
-    × (Writes (zeros minusNought) blank (minusRow 0) 0 → ⊥)
-    × (Writes (zeros minusNought) blank blank 5 → ⊥)
+    × (Writes (zeros minus-nought) blank (minusRow 0) 0 → ⊥)
+    × (Writes (zeros minus-nought) blank blank 5 → ⊥)
 unfolding refusalOf recordOf plain finiteVector toBits
 of-write-offset = (
   λ h. unlike 0 0x47 refl (ap (λ (l : List ℕ). getD l 0 0) (h .holds)),
