@@ -88,6 +88,32 @@ module _ {S : Type 0} (cs : List Check) (new old : S) {n : ℕ} (e : n ≡ refus
   pub becomes : n ≡ 0 → {now : S} → now ≡ new → Changed cs new old now 0
   becomes h f = record { number = sym h ∙ e; holds = f ∙ state-of h }
 
+-- what a call that is not refused leaves
+pub is-new : {A : Type 0} {k : ℕ} (new old : A) {left : A} → left ≡ accepted k new old → k ≡ 0 → left ≡ new
+is-new new old e z = e ∙ ap (λ (k : ℕ). accepted k new old) z
+
+-- and one that is refused
+pub is-old : {S : Type 0} (cs : List Check) (new old : S) {now : S} {n : ℕ} → Changed cs new old now n → (n ≡ 0 → ⊥) → now ≡ old
+is-old cs new old c h = c .holds ∙ sym (old-stays cs new old (c .number) h)
+
+-- ---- a change that is made again
+
+-- where it is accepted again and then changes nothing more, twice equals once
+module _ {S : Type 0} (checks : S → List Check) (make : S → S)
+    (again : (s : S) → refusalOf (checks s) ≡ 0 → refusalOf (checks (make s)) ≡ 0) (same : (s : S) → make (make s) ≡ make s) where
+  pub twice : (s first second : S) (n k : ℕ) → Changed (checks s) (make s) s first n → Changed (checks first) (make first) first second k
+      → (second ≡ first) × (k ≡ n)
+  twice s first second n k p q = let a = go (refusalOf (checks s)) refl (p .holds) in (q .holds ∙ a .0, q .number ∙ a .1 ∙ sym (p .number))
+    where
+      numbers : {x y : S} → x ≡ y → refusalOf (checks x) ≡ refusalOf (checks y)
+      numbers e = ap (λ (x : S). refusalOf (checks x)) e
+
+      -- j is the number of the first
+      go : (j : ℕ) → refusalOf (checks s) ≡ j → first ≡ accepted j (make s) s
+          → (accepted (refusalOf (checks first)) (make first) first ≡ first) × (refusalOf (checks first) ≡ j)
+      go zero e f = let z = numbers f ∙ again s e in (is-new (make first) first refl z ∙ ap make f ∙ same s ∙ sym f, z)
+      go (suc j) e f = let z = numbers f ∙ e in (ap (λ (i : ℕ). accepted i (make first) first) z, z)
+
 -- ---- a call that answers and changes the state
 
 module _ {S : Type 0} (cs : List Check) (a : Answer) (z : numberOf a ≡ 0) (new old : S) {n : ℕ} (e : n ≡ refusalOf cs) where

@@ -17,6 +17,12 @@ all-three a b c e =
     let q = both a b (p .0) in
     (q .0, q .1, p .1)
 
+pub all-four : (a b c d : Bool) → (a && b && c && d) ≡ true → (a ≡ true) × (b ≡ true) × (c ≡ true) × (d ≡ true)
+all-four a b c d e =
+    let p = both (a && b && c) d e in
+    let q = all-three a b c (p .0) in
+    (q .0, q .1, q .2, p .1)
+
 pub neither : (a b : Bool) → (a || b) ≡ false → (a ≡ false) × (b ≡ false)
 neither true b e = (e, cc)
 neither false b e = (refl, e)

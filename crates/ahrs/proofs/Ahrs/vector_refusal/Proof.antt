@@ -1,19 +1,12 @@
 -- `ahrs::Ahrs::vector_refusal` meets its contract: by the number of the state's checks, then the last. Assumes nothing.
-use mathlib.Core.Path.{_≡_, refl, sym, _∙_}
-use mathlib.Core.List.{List, _++_}
-use Prim.Native.Nat.{ℕ, zero, suc}
-use Rattle.answer.specs.Refusals.{Check, refusalOf}
+use mathlib.Core.Path.{sym, _∙_}
 use Rattle.answer.specs.Order.{numbered}
 use Rattle.answer.proofs.Answering.{fails, passes, all-pass}
-use Rattle.answer.proofs.Ordering.{at-once, later}
+use Rattle.answer.proofs.Ordering.{at-once-by, later}
 use Rattle.answer.proofs.Tests.{one}
 use Rattle.ahrs.specs.Calls.{stateChecks}
 use Rattle.ahrs.proofs.Ahrs.vector_refusal.Statement.{statement}
 use Rattle.ahrs.proofs.Ahrs.vector_refusal.Tie as tie
-
-refused : (xs ys : List Check) (n : ℕ) → n ≡ refusalOf xs → (n ≡ 0 → ⊥) → n ≡ refusalOf (xs ++ ys)
-refused xs ys zero e h = absurd (h refl)
-refused xs ys (suc k) e h = sym (at-once xs ys k (sym e))
 
 returns-2 : tie.Need-returns-2
 unfolding numbered
@@ -37,5 +30,5 @@ returns-3 c =
 pub vector-refusal-spec : {M : Type 1} → statement M
 vector-refusal-spec =
     tie.close
-    (tie.spec (λ c κs. tt) (λ c. refused (stateChecks (c .before .before .args .self)) _ _ (c .before .refusal .ensures) (c .if1 .taken))
+    (tie.spec (λ c κs. tt) (λ c. at-once-by (stateChecks (c .before .before .args .self)) _ (c .before .refusal .ensures) (c .if1 .taken))
     (λ c κs. tt) returns-2 returns-3)
