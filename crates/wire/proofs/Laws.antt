@@ -1,12 +1,12 @@
 -- What patterns and floats are to each other, what the bytes of a number make, and a list by its elements. Assumes nothing.
-use Prim.Native.Nat.{ℕ, zero, suc, _+_, _*_, _/_, _%_, _<_}
+use Prim.Native.Nat.{ℕ, zero, suc, _+_, _*_, _/_, _%_, _<_, _≤_}
 use native.Mathlib.Omega.{arith}
 use native.Mathlib.Decide.{decLt}
 use mathlib.Core.Path.{_≡_, refl, ap, sym, _∙_, subst}
 use mathlib.Core.Bool.{Bool, true, false, not, cond, _&&_}
 use mathlib.Core.List.{List, [], _∷_}
 use lib.Dec.{T, ltb, eqb}
-use lib.ListN.{length, getD, drop, drop-of-length-le}
+use lib.ListN.{length, getD, take, drop, drop-of-length-le}
 use lib.Seq.{drop-cons}
 use lib.Ieee.{Float, nan, inf, fin, binary32, isNan, nanBits, odd, ofFields, ofBits, toBits, ne, div}
 use lib.Ieee.Bits.{nanBits-is}
@@ -74,6 +74,12 @@ spell (suc n) s i = getD s i 0 ∷ spell n s (suc i)
 pub spelled : (n : ℕ) (s : List ℕ) (i : ℕ) → length s ≡ n + i → drop i s ≡ spell n s i
 spelled zero s i e = drop-of-length-le s {i = i} (omega arith)
 spelled (suc n) s i e = drop-cons s i 0 (omega arith) ∙ ap (λ (l : List ℕ). getD s i 0 ∷ l) (spelled n s (suc i) (omega arith))
+
+-- the first n of them
+pub spelled-part : (n : ℕ) (s : List ℕ) (i : ℕ) → n + i ≤ length s → take n (drop i s) ≡ spell n s i
+spelled-part zero s i h = refl
+spelled-part (suc n) s i h =
+    ap (take (suc n)) (drop-cons s i 0 (omega arith)) ∙ ap (λ (l : List ℕ). getD s i 0 ∷ l) (spelled-part n s (suc i) (omega arith))
 
 -- only a NaN differs from itself
 pub nan-pattern : (x : Float) → ne x x ≡ true → 2143289344 ≡ toBits binary32 x

@@ -44,6 +44,14 @@ pub of-float-of : (fin false 0 (pos 0) ≡ floatOf 0x80000000 → ⊥) × (fin f
 unfolding ofBits
 of-float-of = (λ h. let z : _≡_ {A = ℕ} 0 1 = cc in omega arith, λ h. let z : _≡_ {A = ℕ} 0 1 = cc in omega arith)
 
+-- 1.0 with its bytes the other way round; of the byte behind it
+abbrev five : List ℕ
+five = 0 ∷ 0 ∷ 0x80 ∷ 0x3F ∷ 0 ∷ []
+
+pub of-float-at : (floatOf 0x0000803F ≡ floatOf (bitsAt five 0) → ⊥) × (fin false 1 (pos 0) ≡ floatOf (bitsAt five 1) → ⊥)
+unfolding ofBits
+of-float-at = (λ h. let z : _≡_ {A = ℕ} 0 1 = cc in omega arith, λ h. let z : _≡_ {A = ℕ} 0 1 = cc in omega arith)
+
 -- the same of patterns; another NaN's pattern
 pub of-bits-of : (0 ≡ bitsOf (fin true 0 (pos 0)) → ⊥) × (0xFFC00000 ≡ bitsOf nan → ⊥)
 unfolding toBits

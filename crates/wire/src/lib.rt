@@ -102,6 +102,13 @@ pub fn float_of(n: u32) -> f32
     f32::from_bits(n)
 }
 
+// The float whose pattern stands at `at`.
+pub fn float_at(s: &[u8], at: usize) -> f32
+    ensures { λ r. ⌜ r ≡ floatOf (bitsAt (now (s .entry)) at) ⌝ }
+{
+    float_of(bits_at(s, at))
+}
+
 // The pattern of a float; `f32::to_bits` is not defined at a NaN, and one pattern stands for every NaN.
 pub fn bits_of(x: f32) -> u32
     ensures { λ r. ⌜ r ≡ bitsOf x ⌝ }
