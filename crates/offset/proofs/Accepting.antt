@@ -7,9 +7,9 @@ use mathlib.Core.List.{List, []}
 use lib.Dec.{ltb, eqb}
 use lib.ListN.{length}
 use borrow.Author.Tests.{eqb-true, ltb-false, le-ltb}
-use Rattle.answer.specs.Refusals.{refusalOf, accepted}
-use Rattle.answer.proofs.Tests.{agrees, both, neither}
-use Rattle.answer.proofs.Answering.{passes, all-pass, passed, unfailed}
+use Rattle.answer.specs.Refusals.{refusalOf}
+use Rattle.answer.proofs.Tests.{agrees, differs, both, neither}
+use Rattle.answer.proofs.Answering.{fails, passes, all-pass, passed, unfailed}
 use Rattle.vector.specs.Vectors.{finiteVector}
 use Rattle.wire.specs.Wire.{u16At}
 use Rattle.offset.specs.declared.Offset.{Offset}
@@ -58,6 +58,10 @@ module _ (n v : ℕ) (s : List ℕ) (m : ℕ) (f : Bool) where
       ∙ passes 5 _ (ap not (ap₂ _&&_ (g .state) (g .floats)))
       ∙ all-pass
 
+  pub other-length : (length s ≡ n → ⊥) → refusalOf (recordChecks n v s m f) ≡ 1
+  unfolding recordChecks
+  other-length h = fails 1 _ (differs (length s) n h)
+
 -- ---- a write's
 
 pub record Writable (o : Offset) (room : ℕ) : Type 0 where
@@ -74,8 +78,3 @@ writable o room e =
       mounting = omega (arith, ltb-false 23 (o .mounting) (p₄ .0));
       floats = passed 4 (finiteVector (o .vector)) [] (p₄ .1) .0;
     }
-
--- ---- what a call that is not refused leaves
-
-pub is-new : {A : Type 0} {k : ℕ} (new old : A) {left : A} → left ≡ accepted k new old → k ≡ 0 → left ≡ new
-is-new new old e z = e ∙ ap (λ (k : ℕ). accepted k new old) z

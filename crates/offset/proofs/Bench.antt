@@ -44,6 +44,17 @@ pub bench-read
 unfolding refusalOf recordChecks hasMark vectorAt storableVector storable isMinusZero recordOf plain ofBits toBits
 bench-read = (refl, refl, refl, refl, refl, refl)
 
+-- an estimator with a timer that runs, and an offset of its own
+abbrev pub running : Bias
+running =
+    record {
+      settings = record { «sample_rate» = one; «stationary_threshold» = one; «stationary_period» = one; «cutoff_frequency» = one };
+      «filter_coefficient» = one;
+      timeout = 9;
+      timer = 7;
+      offset = vector one one one;
+    }
+
 -- restored under 0, into any estimator
 pub bench-restored : (b : Bias) → restoredOf b row 0 .offset ≡ vector half one minusTwo
 unfolding reframedOf inverseOf composeOf first same nameOf mountingOf vectorAt ofBits

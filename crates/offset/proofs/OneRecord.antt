@@ -10,7 +10,7 @@ use lib.Ieee.{Float, binary32, fits}
 use lib.Ieee.Bits.{toBits-lt}
 use Rattle.answer.specs.Refusals.{refusalOf}
 use Rattle.answer.proofs.Tests.{three}
-use Rattle.answer.proofs.Answering.{gives}
+use Rattle.answer.proofs.Answering.{gives, is-new}
 use Rattle.number.specs.Same.{plain}
 use Rattle.number.proofs.Same.{same-finite}
 use Rattle.number.proofs.Plain.{plain-fits, plain-plain}
@@ -21,7 +21,7 @@ use Rattle.offset.specs.declared.Offset.{Offset}
 use Rattle.offset.specs.declared.RecordRead.the-variants.{Refused}
 use Rattle.offset.specs.Record.{offsetAt, recordSaid, bytesOf, floatBytes, recordOf, writeChecks}
 use Rattle.offset.specs.OneRecord.{Singles, Bytes, plainVector, SameOffset, Holds, SameBytes, SameNumbers, OneRecord}
-use Rattle.offset.proofs.Accepting.{good-passes, is-new}
+use Rattle.offset.proofs.Accepting.{good-passes}
 use Rattle.offset.proofs.ReadWritten.{same-offset, written-good}
 use Rattle.offset.proofs.WrittenRead.{record-back, read-good, read-offset}
 

@@ -8,6 +8,7 @@ use lib.Dec.{T}
 use lib.ListN.{length}
 use lib.Ieee.{Float, binary32, fits, ofBits, toBits}
 use lib.Ieee.Bits.{ofBits-toBits}
+use Rattle.answer.proofs.Answering.{is-new}
 use Rattle.number.specs.Same.{plain}
 use Rattle.number.proofs.Plain.{plain-fits}
 use Rattle.vector.specs.Vectors.{finiteVector}
@@ -18,7 +19,7 @@ use Rattle.offset.specs.declared.RecordRead.the-variants.{Read}
 use Rattle.offset.specs.Record.{hasMark, storableVector, vectorAt, offsetAt, recordOf, recordLength, recordVersion, Reads}
 use Rattle.offset.specs.OneRecord.{Singles, plainVector, ReadWritten}
 use Rattle.offset.proofs.Storable.{storable-plains}
-use Rattle.offset.proofs.Accepting.{Good, good-passes, writable, is-new}
+use Rattle.offset.proofs.Accepting.{Good, good-passes, writable}
 
 -- the pattern of a float that an `f32` holds makes it again, without the sign of a zero
 back : (x : Float) → T (fits binary32 x) → ofBits binary32 (toBits binary32 (plain x)) ≡ plain x

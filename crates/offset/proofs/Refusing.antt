@@ -9,6 +9,7 @@ pub exactly-when : ExactlyWhen
 unfolding ascends recordChecks
 exactly-when =
     record {
+      record-refusal = λ size version s m f. by-the-table (recordChecks size version s m f) tt;
       write-offset = λ o room. by-the-table (writeChecks o room) tt;
       read-offset = λ s. by-the-table (readChecks s) tt;
       restore = λ b s m. by-the-table (restoreChecks b s m) tt;

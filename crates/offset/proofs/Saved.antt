@@ -3,12 +3,13 @@ use mathlib.Core.Path.{refl, ap, sym, _∙_}
 use Prim.Native.Nat.{ℕ}
 use mathlib.Core.List.{List}
 use lib.ListN.{length}
+use Rattle.answer.proofs.Answering.{is-new}
 use Rattle.remap.proofs.Composing.{undone}
 use Rattle.offset.specs.declared.Offset.{Offset}
 use Rattle.offset.specs.Record.{mountingAt, vectorAt}
 use Rattle.offset.specs.OneRecord.{plainVector}
-use Rattle.offset.specs.Restore.{reframedOf, WrittenRestored, SavedAgain}
-use Rattle.offset.proofs.Accepting.{writable, is-new}
+use Rattle.offset.specs.Restore.{reframedOf, restoreChecks, WrittenRestored, SavedAgain}
+use Rattle.offset.proofs.Accepting.{writable}
 use Rattle.offset.proofs.ReadWritten.{same-offset}
 use Rattle.offset.proofs.OneRecord.{same-record, with-plus-zeros}
 use Rattle.offset.proofs.Once.{restored-offset}
@@ -16,7 +17,7 @@ use Rattle.offset.proofs.Once.{restored-offset}
 pub written-restored : WrittenRestored
 written-restored o b s after m r f w p z =
     let there = is-new _ _ (w .holds) (sym (w .number)) in
-    restored-offset b after m r p z
+    restored-offset restoreChecks b after m r p z
     ∙ ap (λ (t : List ℕ). reframedOf (vectorAt t) (mountingAt t) m) there
     ∙ ap (λ (q : Offset). reframedOf (q .vector) (q .mounting) m) (same-offset o f)
 

@@ -13,7 +13,7 @@ use Rattle.answer.specs.declared.Answer.the-variants.{Turned}
 use Rattle.answer.specs.Answers.{valuesOf}
 use Rattle.answer.specs.Promises.{Answers}
 use Rattle.answer.proofs.Answer.{the-type}
-use Rattle.answer.proofs.Answering.{passes, all-pass}
+use Rattle.answer.proofs.Answering.{passes, all-pass, is-new}
 use Rattle.vector.specs.declared.Vector.{Vector}
 use Rattle.vector.specs.Vectors.{vector, finiteVector, fromArrayOf}
 use Rattle.vector.specs.Mounting.{mountingOf, turnOf}
@@ -25,7 +25,6 @@ use Rattle.remap.specs.Composition.{inverseOf, inverseChecks}
 use Rattle.remap.specs.Given.{Gives}
 use Rattle.remap.proofs.Composing.{undone}
 use Rattle.offset.specs.Restore.{reframedOf}
-use Rattle.offset.proofs.Accepting.{is-new}
 
 -- ---- one turn
 

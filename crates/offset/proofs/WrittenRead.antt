@@ -8,11 +8,12 @@ use lib.Dec.{eqb}
 use lib.ListN.{length, getD}
 use lib.Ieee.{Float, binary32}
 use lib.Ieee.Bits.{toBits-ofBits}
+use lib.Ieee.Scale.{finite}
 use denote.Floats.{passes as true-T}
 use borrow.Author.Tests.{eqb-true, le-ltb}
 use Rattle.answer.proofs.Tests.{agrees, all-three}
 use Rattle.answer.specs.Refusals.{refusalOf}
-use Rattle.answer.proofs.Answering.{passes, all-pass}
+use Rattle.answer.proofs.Answering.{passes, all-pass, is-new}
 use Rattle.wire.specs.Wire.{bitsAt, floatOf, bitsOf}
 use Rattle.wire.proofs.Laws.{finite-no-nan, spell, spelled}
 use Rattle.offset.specs.declared.Offset.{Offset}
@@ -21,7 +22,7 @@ use Rattle.offset.specs.Record.{hasMark, mountingAt, vectorAt, offsetAt,
 use Rattle.offset.specs.Record.{recordLength, recordVersion, writeChecks, bytesOf, floatBytes, recordOf}
 use Rattle.offset.specs.OneRecord.{Bytes, WrittenRead}
 use Rattle.offset.proofs.Storable.{storable-finite, storable-finites, storable-stays}
-use Rattle.offset.proofs.Accepting.{Good, good, is-new}
+use Rattle.offset.proofs.Accepting.{Good, good}
 
 -- four bytes are those of the pattern that they make
 bytes-back : (a b c d : ℕ) → a < 256 → b < 256 → c < 256 → d < 256 → bytesOf (a + 256 * b + 65536 * c + 16777216 * d) ≡ a ∷ b ∷ c ∷ d ∷ []
@@ -38,15 +39,21 @@ bytes-back a b c d ha hb hc hd =
     cc
 
 module _ (s : List ℕ) (bytes : Bytes s) where
-  -- so are the four bytes at a place, where a record may hold the float that they make
+  -- so are the four bytes at a place those of the float that they make, where it is finite
+  pub pattern-back : (at : ℕ) → finite (floatOf (bitsAt s at)) ≡ true
+      → bytesOf (bitsOf (floatOf (bitsAt s at))) ≡ getD s at 0 ∷ getD s (at + 1) 0 ∷ getD s (at + 2) 0 ∷ getD s (at + 3) 0 ∷ []
+  pattern-back at e =
+      let n = bitsAt s at in
+      let whole = finite-no-nan (floatOf n) (true-T _ e) in
+      ap bytesOf (toBits-ofBits binary32 n (omega (arith, bytes at, bytes (at + 1), bytes (at + 2), bytes (at + 3))) whole)
+      ∙ bytes-back (getD s at 0) _ _ _ (bytes at) (bytes (at + 1)) (bytes (at + 2)) (bytes (at + 3))
+
+  -- and without the sign of a zero, where a record may hold it
   float-back : (at : ℕ) → storable (floatOf (bitsAt s at)) ≡ true
       → floatBytes (floatOf (bitsAt s at)) ≡ getD s at 0 ∷ getD s (at + 1) 0 ∷ getD s (at + 2) 0 ∷ getD s (at + 3) 0 ∷ []
   float-back at e =
-      let n = bitsAt s at in
-      let whole = finite-no-nan (floatOf n) (true-T _ (storable-finite (floatOf n) e)) in
-      ap (λ (y : Float). bytesOf (bitsOf y)) (storable-stays (floatOf n) e)
-      ∙ ap bytesOf (toBits-ofBits binary32 n (omega (arith, bytes at, bytes (at + 1), bytes (at + 2), bytes (at + 3))) whole)
-      ∙ bytes-back (getD s at 0) _ _ _ (bytes at) (bytes (at + 1)) (bytes (at + 2)) (bytes (at + 3))
+      let x = floatOf (bitsAt s at) in
+      ap (λ (y : Float). bytesOf (bitsOf y)) (storable-stays x e) ∙ pattern-back at (storable-finite x e)
 
   pub record-back : Good recordLength recordVersion s 0 true → recordOf (offsetAt s) ≡ s
   unfolding recordOf hasMark vectorAt storableVector

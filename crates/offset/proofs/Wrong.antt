@@ -1,8 +1,8 @@
 -- Wrong answers that the promises refuse, each by evaluation. Assumes nothing.
 use Prim.Native.Nat.{ℕ}
 use native.Mathlib.Omega.{arith}
-use mathlib.Core.Path.{ap, refl}
-use mathlib.Core.Bool.{false, cond}
+use mathlib.Core.Path.{_≡_, ap, refl}
+use mathlib.Core.Bool.{true, false, cond}
 use mathlib.Core.List.{List, [], _∷_}
 use lib.ListN.{getD, set}
 use lib.Ieee.{Float, nan, inf, fin, neg, ofBits, toBits}
@@ -23,7 +23,17 @@ use Rattle.offset.specs.declared.RecordRead.{RecordRead}
 use Rattle.offset.specs.declared.RecordRead.the-variants.{Read, Refused}
 use Rattle.offset.specs.Record.{hasMark, vectorAt, storable, storableVector, recordOf, recordChecks, Reads, Writes}
 use Rattle.offset.specs.Restore.{reframedOf, Restores}
-use Rattle.offset.proofs.Bench.{minusTwo, recordWith, row, rowOffset, zeroRow, minusRow}
+use Rattle.offset.proofs.Bench.{minusTwo, recordWith, row, rowOffset, running, zeroRow, minusRow}
+
+-- version 2 taken as 1, and 1 as 2; 18 bytes taken for 34; another mounting of 24 taken; the caller's floats not looked at
+pub of-record-refusal
+    : (0 ≡ refusalOf (recordChecks 18 1 (set row 3 2) 0 true) → ⊥)
+    × (0 ≡ refusalOf (recordChecks 18 2 row 0 true) → ⊥)
+    × (0 ≡ refusalOf (recordChecks 34 1 row 0 true) → ⊥)
+    × (0 ≡ refusalOf (recordChecks 18 1 row 24 true) → ⊥)
+    × (0 ≡ refusalOf (recordChecks 18 1 row 0 false) → ⊥)
+unfolding refusalOf recordChecks hasMark vectorAt storableVector storable isMinusZero ofBits
+of-record-refusal = (λ h. omega arith, λ h. omega arith, λ h. omega arith, λ h. omega arith, λ h. omega arith)
 
 abbrev mountingIn : RecordRead → ℕ
 mountingIn (Read o) = o .mounting
@@ -78,17 +88,6 @@ of-write-offset = (
   λ h. unlike 0x80 0 refl (ap (λ (l : List ℕ). getD l 9 0) (h .holds)),
   λ h. let e = h .number in omega arith,
 )
-
--- an estimator with a timer that runs, and an offset of its own
-abbrev running : Bias
-running =
-    record {
-      settings = record { «sample_rate» = one; «stationary_threshold» = one; «stationary_period» = one; «cutoff_frequency» = one };
-      «filter_coefficient» = one;
-      timeout = 9;
-      timer = 7;
-      offset = vector one one one;
-    }
 
 abbrev gives : Bias → ℕ → Change
 gives b n = record { state = b; number = n }

@@ -10,9 +10,11 @@ ghost use Rattle.answer.specs.Refusals.{refusalOf};
 ghost use Rattle.wire.specs.Wire.{floatOf};
 ghost use Rattle.offset.specs.Record.{hasMark, storable, storableVector, vectorAt, offsetAt, recordOf, recordChecks, writeChecks, Reads, Writes};
 
-const LENGTH: usize = 18;
+// How many bytes a record has.
+pub const LENGTH: usize = 18;
 
-const VERSION: u16 = 1;
+// Its version.
+pub const VERSION: u16 = 1;
 
 // An offset, in the frame of a mounting.
 pub struct Offset {
@@ -52,7 +54,7 @@ fn are_storable(bytes: &[u8]) -> bool
 }
 
 // The number of a record's checks, of whatever length and version, beside one more mounting number and whether the caller's own floats are finite.
-fn record_refusal(bytes: &[u8], length: usize, version: u16, mounting: u8, finite: bool) -> u8
+pub fn record_refusal(bytes: &[u8], length: usize, version: u16, mounting: u8, finite: bool) -> u8
     ensures { λ r. ⌜ r ≡ refusalOf (recordChecks length version (now (bytes .entry)) mounting finite) ⌝ }
 {
     if bytes.len() != length {
