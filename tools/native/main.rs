@@ -4,6 +4,8 @@ mod aim;
 #[path = "../oracle/closed.rs"]
 #[allow(dead_code)]
 mod closed;
+#[path = "../oracle/damage.rs"]
+mod damage;
 mod differ;
 #[path = "../oracle/edge.rs"]
 mod edge;
@@ -20,6 +22,9 @@ mod log;
 mod logs;
 #[path = "../oracle/machine.rs"]
 mod machine;
+mod offset_port;
+#[path = "../oracle/offsets.rs"]
+mod offsets;
 mod patterns;
 #[path = "../oracle/plain.rs"]
 mod plain;

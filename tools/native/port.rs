@@ -1,16 +1,16 @@
 //! The exported text, called as a script says: what it answers, and the words of its states.
 
 use crate::machine::{Answer, gives, refused};
+use crate::offset_port;
 use crate::plain_port::{arithmetic, mountings};
 use crate::record::{QUIET, Record};
-use crate::words::{MINUS_ZERO, bits, f, length, packed, unpacked};
+use crate::words::{bits, f};
 use gateweave::ahrs::read::{FlagsRead, QuaternionRead, SettingsRead, StatesRead, VectorRead};
 use gateweave::ahrs::{self, Ahrs, Settings};
 use gateweave::answer::Answer as Said;
 use gateweave::bias::reads::{ActiveRead, OffsetRead, SettingsRead as BiasSettingsRead};
 use gateweave::bias::{self, Bias, BiasSettings};
 use gateweave::math::{Quaternion, Vector};
-use gateweave::offset::{self, Offset, RecordRead};
 
 #[derive(Default)]
 pub struct Port {
@@ -63,6 +63,10 @@ fn settings(a: &[u32]) -> Settings {
         magnetic_rejection_squared: f(a[5]),
         rejection_timeout: f(a[6]),
     }
+}
+
+pub fn bias_settings(a: &[u32]) -> BiasSettings {
+    BiasSettings { sample_rate: f(a[0]), stationary_threshold: f(a[1]), stationary_period: f(a[2]), cutoff_frequency: f(a[3]) }
 }
 
 fn of_settings(s: &Settings) -> [u32; 7] {
@@ -153,14 +157,8 @@ impl Port {
     }
 
     fn bias(&mut self, code: u32, a: &[u32]) -> Answer {
-        let settings = || BiasSettings {
-            sample_rate: f(a[0]),
-            stationary_threshold: f(a[1]),
-            stationary_period: f(a[2]),
-            cutoff_frequency: f(a[3]),
-        };
         if code == 0x60 {
-            return match Bias::with_settings(settings()) {
+            return match Bias::with_settings(bias_settings(a)) {
                 bias::Started::Fresh(fresh) => {
                     self.bias = Some(fresh);
                     numbered(0)
@@ -170,11 +168,11 @@ impl Port {
         }
         let state = self.bias.expect("the script starts no estimator");
         let change = match code {
-            0x61 => state.set_settings(settings()),
+            0x61 => state.set_settings(bias_settings(a)),
             0x62 => return self.reading(state, vector(a)),
             0x64 => state.set_offset(vector(a)),
             0x65 => state.restart(),
-            0x69 => offset::restore(state, &unpacked(&a[2..], a[1]), choice(a[0])),
+            0x69 => offset_port::restore(state, a),
             _ => return read_bias(state, code, a),
         };
         self.bias = Some(change.state);
@@ -245,22 +243,7 @@ pub fn read_bias(state: Bias, code: u32, a: &[u32]) -> Answer {
             }
             BiasSettingsRead::Refused(n) => numbered(n),
         },
-        0x68 => record(state, choice(a[0]), length(a[1], 256)),
+        0x68 | 0x6A..=0x6C => offset_port::call(state, code, a),
         _ => refused(1),
     }
-}
-
-/// The offset's record, in a buffer of some length. What was written has to read back with plus zeros, and to be written as it was.
-fn record(state: Bias, mounting: u8, length: usize) -> Answer {
-    let (mut buffer, vector) = (vec![0x2A; length], state.offset);
-    let number = offset::write_offset(Offset { mounting, vector }, &mut buffer);
-    if let RecordRead::Read(back) = offset::read_offset(&buffer) {
-        let plain = of_vector(vector).map(|w| if w == MINUS_ZERO { 0 } else { w });
-        assert!(number == 0 && back.mounting == mounting && of_vector(back.vector) == plain, "a record reads back as another");
-        let mut again = vec![0x2A; length];
-        assert!(offset::write_offset(back, &mut again) == 0 && again == buffer, "what was read is written as another record");
-    } else {
-        assert!(number != 0, "a record that was written does not read back");
-    }
-    Answer { number: number.into(), words: packed(&buffer) }
 }

@@ -1,6 +1,7 @@
 //! What a run reaches: how many calls of each kind, their answers, and the cases that are easily missed.
 
-use crate::estimator::has_minus_zero;
+use crate::estimator::settings;
+use crate::offsets::{given_settings, has_minus_zero};
 use crate::record::Record;
 use crate::state::{ACCELERATION, LIMITS_USED, MAGNETIC, QUATERNION, TIMEOUT};
 use crate::words::MINUS_ZERO;
@@ -57,6 +58,13 @@ tally! {
     plain_written "offset records written of a minus zero",
     minus_refused "offset records refused for one",
     minus_restored "offset records restored to one",
+    moved_up "offset records moved up",
+    moved_down "offset records moved down",
+    second_restored "offset records restored from one with settings",
+    settings5 "offset records refused 5 for settings",
+    settings6 "offset records refused 6 for settings",
+    settings7 "offset records refused 7 for settings",
+    minus_settings "offset records taken with a minus zero in settings",
     changes "other calls of the filter",
     bias_changes "other calls of the estimator",
     plain "calls without a state",
@@ -144,7 +152,7 @@ impl Tally {
         *ends.into_iter().nth(number as usize).expect("a refusal's number") += 1;
     }
 
-    /// The signs of zeros about the offset record.
+    /// Offset records: the signs of zeros, and settings.
     pub fn record(&mut self, r: &Record, number: u32, after: &[u32; 10]) {
         let minus = after[7..].contains(&MINUS_ZERO);
         if r[0] == 0x68 && number == 0 {
@@ -156,6 +164,22 @@ impl Tally {
             self.minus_refused += u64::from(number == 5 && has_minus_zero(&r[1..]));
             self.minus_restored += u64::from(number == 0 && minus);
         }
+        if let Some(words) = given_settings(r[0], &r[1..]) {
+            self.settings(r[0], number, &words);
+        }
+    }
+
+    /// A record with settings, in it or beside it.
+    fn settings(&mut self, code: u32, number: u32, words: &[u32]) {
+        let taken = |call: u32| u64::from(number == 0 && code == call);
+        self.moved_up += taken(0x6A);
+        self.moved_down += taken(0x6B);
+        self.second_restored += taken(0x69);
+        self.minus_settings += u64::from(number == 0 && words.contains(&MINUS_ZERO));
+        let refused = |n: u32| u64::from(number == n && settings(words).err() == Some(n));
+        self.settings5 += refused(5);
+        self.settings6 += refused(6);
+        self.settings7 += refused(7);
     }
 
     pub fn reading(&mut self, r: &Record, number: u32, before: &[u32; 10], after: &[u32; 10]) {

@@ -1,7 +1,8 @@
 //! What a script reaches: a count for each answer of each call, and for each case that is easily missed.
 
-use crate::estimator::has_minus_zero;
+use crate::estimator::settings;
 use crate::machine::Machine;
+use crate::offsets::{given, given_settings, has_minus_zero};
 use crate::record::{QUIET, Record, call};
 use crate::state::{self, ACCELERATION, LIMITS_USED, MAGNETIC, TIMEOUT};
 use crate::words::MINUS_ZERO;
@@ -27,6 +28,7 @@ impl Cover {
         let number = self.machine.call(r).number;
         self.count(&format!("{} {number}", call(code).unwrap().1), true);
         self.zeros(r, number);
+        self.records(r, number);
         if number != 0 {
             return;
         }
@@ -54,6 +56,22 @@ impl Cover {
             }
             _ => (),
         }
+    }
+
+    /// Records with settings, and versions of the other edition.
+    fn records(&mut self, r: &Record, number: u32) {
+        let (code, a) = (r[0] & !QUIET, &r[1..]);
+        if matches!(code, 0x69..=0x6C) {
+            let bytes = given(code, a);
+            let other = matches!((bytes.len(), bytes.get(3..5)), (18, Some([2, 0])) | (34, Some([1, 0])));
+            self.count("> version of the other edition, refused", number == 3 && other);
+        }
+        let Some(words) = given_settings(code, a) else { return };
+        for n in 5..=7 {
+            self.count(&format!("> settings of a record refused {n}"), number == n && settings(&words).err() == Some(n));
+        }
+        self.count("> minus zero in settings of a record, taken", number == 0 && words.contains(&MINUS_ZERO));
+        self.count("> offset restored from a record with settings", number == 0 && code == 0x69);
     }
 
     fn update(&mut self, r: &Record, before: &[u32; 37]) {

@@ -1,10 +1,10 @@
-//! The calls of the bias estimator. The offset record is not the Rust's: it is made and read here by its description.
+//! The calls of the bias estimator.
 
 use crate::machine::{Answer, Machine, gives, refused};
-use crate::plain::{inverse, mounting};
+use crate::offsets;
 use crate::state;
-use crate::words::{MINUS_ZERO, all_finite, bits, f, length, of_v, packed, unpacked, v};
-use fusion_ahrs::{Bias, BiasSettings, RemapAlignment, remap};
+use crate::words::{all_finite, bits, f, of_v, v};
+use fusion_ahrs::{Bias, BiasSettings};
 
 impl Machine {
     pub fn bias(&mut self, code: u32, a: &[u32]) -> Answer {
@@ -33,9 +33,14 @@ impl Machine {
                 let s = next.settings();
                 gives([s.sample_rate, s.stationary_threshold, s.stationary_period, s.cutoff_frequency].map(bits))
             }
-            0x68 => record(next, a),
-            0x69 => self.restore(next, a),
-            _ => panic!("the script has a call {code:02X}"),
+            0x69 => match offsets::restored(a) {
+                Ok(offset) => {
+                    next.set_offset(offset);
+                    self.keep_bias(next, [])
+                }
+                Err(number) => refused(number),
+            },
+            _ => offsets::call(next, code, a),
         }
     }
 
@@ -49,18 +54,10 @@ impl Machine {
     }
 
     fn bias_settings(&mut self, code: u32, a: &[u32]) -> Answer {
-        if !all_finite(&a[..4]) {
-            return refused(5);
-        }
-        let settings = BiasSettings {
-            sample_rate: f(a[0]),
-            stationary_threshold: f(a[1]),
-            stationary_period: f(a[2]),
-            cutoff_frequency: f(a[3]),
+        let settings = match settings(a) {
+            Ok(settings) => settings,
+            Err(number) => return refused(number),
         };
-        if !(settings.sample_rate > 0.0) {
-            return refused(6);
-        }
         if code == 0x60 {
             return self.keep_bias(Bias::with_settings(settings), []);
         }
@@ -68,48 +65,22 @@ impl Machine {
         next.set_settings(settings);
         self.keep_bias(next, [])
     }
+}
 
-    fn restore(&mut self, mut next: Bias, a: &[u32]) -> Answer {
-        let bytes = unpacked(&a[2..], a[1]);
-        if bytes.len() != 18 {
-            return refused(1);
-        }
-        if bytes[..3] != *b"GOF" {
-            return refused(2);
-        }
-        if bytes[3..5] != [1, 0] {
-            return refused(3);
-        }
-        let (Some(from), Some(to)) = (mounting(bytes[5].into()), mounting(a[0])) else { return refused(4) };
-        let words = packed(&bytes[6..]);
-        if !all_finite(&words) || words.contains(&MINUS_ZERO) {
-            return refused(5);
-        }
-        next.set_offset(remap(remap(v(&words), RemapAlignment::ALL[inverse(from) as usize]), to));
-        self.keep_bias(next, [])
+/// Settings, or the number that refuses them, whatever gives them: rate, threshold, period, cutoff.
+pub fn settings(a: &[u32]) -> Result<BiasSettings, u32> {
+    if !all_finite(&a[..4]) {
+        return Err(5);
     }
-}
-
-/// Whether the record that a restore is given has a minus zero.
-pub fn has_minus_zero(a: &[u32]) -> bool {
-    let bytes = unpacked(&a[2..], a[1]);
-    bytes.len() == 18 && packed(&bytes[6..]).contains(&MINUS_ZERO)
-}
-
-/// The offset's record, with plus zeros, in a buffer of the length given.
-fn record(bias: Bias, a: &[u32]) -> Answer {
-    let mut buffer = vec![0x2A; length(a[1], 256)];
-    let number = match (buffer.len(), mounting(a[0])) {
-        (18, Some(_)) => 0,
-        (18, None) => 4,
-        _ => 1,
+    let settings = BiasSettings {
+        sample_rate: f(a[0]),
+        stationary_threshold: f(a[1]),
+        stationary_period: f(a[2]),
+        cutoff_frequency: f(a[3]),
     };
-    if number == 0 {
-        buffer[..6].copy_from_slice(&[b'G', b'O', b'F', 1, 0, a[0] as u8]);
-        for (i, w) in of_v(bias.offset()).into_iter().enumerate() {
-            let plain = if w == MINUS_ZERO { 0 } else { w };
-            buffer[6 + 4 * i..10 + 4 * i].copy_from_slice(&plain.to_le_bytes());
-        }
+    if !(settings.sample_rate > 0.0) {
+        return Err(6);
     }
-    Answer { number, words: packed(&buffer) }
+    let fresh = state::of_bias(&Bias::with_settings(settings));
+    if state::bias_finite(&fresh) { Ok(settings) } else { Err(7) }
 }

@@ -5,7 +5,7 @@ use crate::machine::{Answer, Machine};
 use crate::random::Random;
 use crate::record::{CALLS, QUIET, Record, record};
 use crate::state;
-use crate::words::{MINUS_ZERO, packed};
+use crate::words::packed;
 
 /// A script in the making. Each call is handed on with the Rust's answer to it; one call in `quiet` prints its state.
 pub struct Script<'a> {
@@ -69,6 +69,7 @@ impl Script<'_> {
         self.begin();
         match mode {
             "mounting" => self.mountings(),
+            "bias" => self.records(),
             "sample" => self.sample(),
             _ => (),
         }
@@ -100,6 +101,7 @@ impl Script<'_> {
     /// Some of everything, hard cases first; what is left of the script is walks with the pole.
     fn sample(&mut self) {
         let all = self.left;
+        self.records();
         let parts: [(u64, fn(&mut Self)); 5] =
             [(40, Self::edge), (58, Self::math), (68, Self::mounting), (88, Self::bias), (93, Self::fuzz)];
         for (percent, calls) in parts {
@@ -203,7 +205,7 @@ impl Script<'_> {
         self.put(0x55, &args);
     }
 
-    fn bias_settings(&mut self) -> [u32; 4] {
+    pub fn bias_settings(&mut self) -> [u32; 4] {
         let r = &mut self.random;
         let rate = match r.below(6) {
             0 => r.float(),
@@ -233,18 +235,19 @@ impl Script<'_> {
 
     fn bias_call(&mut self) {
         let r = &mut self.random;
-        match r.below(24) {
+        match r.below(27) {
             0 => drop(self.put(0x63, &[])),
             1 => self.set_offset(),
             2 if r.one_in(4) => drop(self.put(0x65, &[])),
             3 => drop(self.put(0x66, &[])),
             4 => drop(self.put(0x67, &[])),
             5 => self.record(),
-            6 => self.restore(),
+            6 => self.any_record(0x69),
             7 => {
                 let gyroscope = [r.loose(), r.loose(), r.loose()];
                 self.put(0x62, &gyroscope);
             }
+            n @ 24.. => self.any_record(0x6A + n as u32 - 24),
             n => self.still(n),
         }
     }
@@ -283,26 +286,6 @@ impl Script<'_> {
         let len = if r.one_in(4) { r.below(40) as u32 } else { 18 };
         let number = r.below(26) as u32;
         self.put(0x68, &[number, len]);
-    }
-
-    /// A record, now and then with a minus zero, damaged, or of another length.
-    fn restore(&mut self) {
-        let r = &mut self.random;
-        let mut bytes = vec![b'G', b'O', b'F', 1, 0, r.below(25) as u8];
-        let signed = r.one_in(3);
-        for w in r.offset() {
-            let w = if w == MINUS_ZERO && !signed { 0 } else { w };
-            bytes.extend(w.to_le_bytes());
-        }
-        if r.one_in(3) {
-            let at = r.below(18) as usize;
-            bytes[at] ^= 1 << r.below(8);
-        }
-        let len = if r.one_in(6) { r.below(53) as usize } else { 18 };
-        bytes.resize(len, 0);
-        let mut args = vec![r.below(25) as u32, len as u32];
-        args.extend(packed(&bytes));
-        self.put(0x69, &args);
     }
 
     /// An angle of rejection, and the limit that the Rust makes of it.
@@ -356,7 +339,7 @@ impl Script<'_> {
     /// One call of any kind with bits changed at random. A limit that is to be accepted has to be one of the Rust's.
     pub fn fuzz(&mut self) {
         let r = &mut self.random;
-        let (code, _, kinds) = *r.pick(&CALLS.iter().filter(|c| !matches!(c.0, 0x53..=0x55 | 0x68 | 0x69)).collect::<Vec<_>>());
+        let (code, _, kinds) = *r.pick(&CALLS.iter().filter(|c| !matches!(c.0, 0x53..=0x55 | 0x68..=0x6C)).collect::<Vec<_>>());
         if code == 0x80 || code == 0x81 {
             let mut s = self.ahrs_settings();
             let r = &mut self.random;

@@ -1,6 +1,7 @@
 //! Answers call scripts by the Rust crate, and makes them. `oracle` with no argument says what it can do.
 
 mod cover;
+mod damage;
 mod edge;
 mod estimator;
 mod filter;
@@ -8,6 +9,7 @@ mod generate;
 mod geometry;
 mod log;
 mod machine;
+mod offsets;
 mod plain;
 mod random;
 mod record;

@@ -115,9 +115,14 @@ impl Random {
     pub fn loose(&mut self) -> u32 {
         match self.below(12) {
             0 => self.any(),
-            1 if self.one_in(4) => self.pick(&[0x7F80_0000, 0xFF80_0000, 0x7FC0_0000, 0xFFFF_FFFF, 0x7F80_0001]),
+            1 if self.one_in(4) => self.not_finite(),
             _ => self.float(),
         }
+    }
+
+    /// An infinity or a NaN.
+    pub fn not_finite(&mut self) -> u32 {
+        self.pick(&[0x7F80_0000, 0xFF80_0000, 0x7FC0_0000, 0xFFFF_FFFF, 0x7F80_0001])
     }
 
     pub fn positive(&mut self) -> u32 {

@@ -6,6 +6,11 @@ use fusion_ahrs::{Matrix, Quaternion, Vector};
 /// The bits of -0.0, which no offset record has.
 pub const MINUS_ZERO: u32 = 0x8000_0000;
 
+/// The bits of a float, those of a minus zero with a plus sign.
+pub fn plus_zero(w: u32) -> u32 {
+    if w == MINUS_ZERO { 0 } else { w }
+}
+
 /// A float's bits, with one pattern for every NaN.
 pub fn bits(x: f32) -> u32 {
     if x.is_nan() { 0x7FC0_0000 } else { x.to_bits() }

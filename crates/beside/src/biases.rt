@@ -1,10 +1,6 @@
-// The calls of the bias estimator: 60 to 69.
-use super::lent;
-use super::lent::BYTES;
-use super::record::RECORD;
-use super::record::choice_at;
-use super::record::float_at;
-use super::record::length_at;
+// The calls of the bias estimator: 60 to 67, and those of its offset's records.
+use super::offsets;
+use super::record::bias_settings_at;
 use super::record::vector_at;
 use super::said;
 use super::said::Said;
@@ -17,7 +13,6 @@ use bias::Started;
 use bias::reads::ActiveRead;
 use bias::reads::OffsetRead;
 use bias::reads::SettingsRead;
-use offset::Offset;
 
 // The estimator, once a start was accepted.
 pub(crate) enum Estimator {
@@ -35,15 +30,6 @@ struct Step {
 pub(crate) struct Answered {
     pub estimator: Estimator,
     pub said: Said,
-}
-
-fn settings_at(record: &[u8]) -> BiasSettings {
-    BiasSettings {
-        sample_rate: float_at(record, 1),
-        stationary_threshold: float_at(record, 2),
-        stationary_period: float_at(record, 3),
-        cutoff_frequency: float_at(record, 4),
-    }
 }
 
 fn settings_words(settings: BiasSettings) -> Words {
@@ -110,56 +96,31 @@ fn settings_of(read: SettingsRead) -> Said {
     }
 }
 
-// The offset's record, in a buffer of the length given.
-fn recorded(bias: Bias, record: &[u8]) -> Said {
-    let n = length_at(record, 2);
-    if n > BYTES {
-        return said::number(1);
-    }
-    let mounting = choice_at(record, 1);
-    let vector = bias.offset;
-    let mut buffer = [0x2Au8; 256];
-    let number = offset::write_offset(Offset { mounting, vector }, &mut buffer[0..n]);
-    lent::bytes(number, &buffer, n)
-}
-
-// Restores the record whose bytes stand from word 3 on. A length beyond the call's record is refused as any other that is not 18.
-fn restored(bias: Bias, record: &[u8]) -> Step {
-    let n = length_at(record, 2);
-    if record.len() != RECORD {
-        return unchanged(bias, said::number(1));
-    }
-    if n > RECORD - 12 {
-        return unchanged(bias, said::number(1));
-    }
-    changed(offset::restore(bias, &record[12..12 + n], choice_at(record, 1)))
-}
-
 // What a call that only reads the state says.
 fn said_of(bias: Bias, call: u32, record: &[u8]) -> Said {
     match call {
         0x63 => offset_of(bias.offset()),
         0x66 => active_of(bias.is_active()),
         0x67 => settings_of(bias.settings()),
-        0x68 => recorded(bias, record),
-        _ => said::number(1),
+        0x68 => offsets::write(bias, record),
+        _ => offsets::answer(call, record),
     }
 }
 
 fn tell(bias: Bias, call: u32, record: &[u8]) -> Step {
     match call {
-        0x61 => changed(bias.set_settings(settings_at(record))),
+        0x61 => changed(bias.set_settings(bias_settings_at(record, 1))),
         0x62 => read(bias.update(vector_at(record, 1))),
         0x64 => changed(bias.set_offset(vector_at(record, 1))),
         0x65 => changed(bias.restart()),
-        0x69 => restored(bias, record),
+        0x69 => changed(offsets::restore(bias, record)),
         _ => unchanged(bias, said_of(bias, call, record)),
     }
 }
 
 // A start; one that is refused leaves the estimator that was.
 fn start(estimator: Estimator, record: &[u8]) -> Answered {
-    match Bias::with_settings(settings_at(record)) {
+    match Bias::with_settings(bias_settings_at(record, 1)) {
         Started::Fresh(fresh) => Answered {
             estimator: Estimator::At(fresh),
             said: said::number(0),

@@ -7,6 +7,7 @@ mod line;
 mod matrices;
 mod mountings;
 mod numbers;
+mod offsets;
 mod quaternions;
 mod record;
 mod said;
@@ -111,7 +112,7 @@ fn answer(machine: Machine, record: &[u8]) -> Answered {
     let quiet = word / 0x100 == 1;
     let call = if quiet { word % 0x100 } else { word };
     match call {
-        0x60..=0x69 => answer_bias(machine, call, record, quiet),
+        0x60..=0x6C => answer_bias(machine, call, record, quiet),
         0x80..=0x8E => answer_filter(machine, call, record, quiet),
         _ => Answered {
             machine,

@@ -1,5 +1,6 @@
 // A call's record: sixteen words of 32 bits, low byte first. Word 0 is the call's number, plus 0x100 where the state is not to be
 // printed; the arguments follow.
+use bias::BiasSettings;
 use math::Matrix;
 use math::Quaternion;
 use vector::Vector;
@@ -39,6 +40,18 @@ pub(crate) fn quaternion_at(record: &[u8], n: usize) -> Quaternion
         float_at(record, n + 2),
         float_at(record, n + 3),
     )
+}
+
+// The settings of the estimator, in the order of its start.
+pub(crate) fn bias_settings_at(record: &[u8], n: usize) -> BiasSettings
+    requires { ⌜ n < 13 ⌝ }
+{
+    BiasSettings {
+        sample_rate: float_at(record, n),
+        stationary_threshold: float_at(record, n + 1),
+        stationary_period: float_at(record, n + 2),
+        cutoff_frequency: float_at(record, n + 3),
+    }
 }
 
 // The matrix of words 1 to 9, by rows.
