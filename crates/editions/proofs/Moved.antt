@@ -20,7 +20,7 @@ use Rattle.offset.proofs.Accepting.{Good}
 use Rattle.offset.proofs.WrittenRead.{pattern-back}
 use Rattle.editions.specs.Edition.{first, second, settingsAt}
 use Rattle.editions.specs.Move.{partOf, settingsBytes, upOf, downOf, MovesUp, MovesDown}
-use Rattle.editions.specs.Move.{Singles, UpDown, DownUp, Held, Unwritten}
+use Rattle.editions.specs.Move.{SingleSettings, UpDown, DownUp, Held, Unwritten}
 use Rattle.editions.proofs.Part.{fronted, alone, before, moved-good}
 use Rattle.editions.proofs.Accepting.{Sound, Movable, movable, movable-passes, up-movable, up-passes}
 
@@ -38,7 +38,7 @@ parted v w s t e = ap (partOf v) e
 -- ---- up
 
 -- settings are made again by the patterns that they have
-module _ (p : BiasSettings) (f : Singles p) (s : List ℕ) where
+module _ (p : BiasSettings) (f : SingleSettings p) (s : List ℕ) where
   pub settings-back : settingsAt (fronted 2 s (settingsBytes p)) ≡ p
   unfolding settingsAt
   settings-back =
@@ -61,7 +61,7 @@ module _ (s : List ℕ) (p : BiasSettings) (t up : List ℕ) (w : MovesUp s p t 
   pub up-front : up ≡ fronted 2 s (settingsBytes p)
   up-front = is-new _ _ (w .holds) (sym (w .number)) ∙ before 2 s (omega (arith, up-source .size)) (settingsBytes p)
 
-  module _ (f : Singles p) where
+  module _ (f : SingleSettings p) where
     up-held : settingsAt up ≡ p
     up-held = ap settingsAt up-front ∙ settings-back p f s
 

@@ -45,7 +45,7 @@ module _ (v : ℕ) (s t : List ℕ) {u : List ℕ} (e : u ≡ fronted v s t) whe
   version-put : u16At u 3 ≡ v
   version-put = ap (λ (l : List ℕ). u16At l 3) e ∙ omega arith
 
-  pub moved-length : length u ≡ 18 + length t
+  moved-length : length u ≡ 18 + length t
   moved-length = ap length e ∙ omega arith
 
   -- a good record stays good, by the length and version that it now has

@@ -59,7 +59,7 @@ MovesDown s before after r = Changed (downChecks s (length before)) (downOf s) b
 -- ---- the statements
 
 -- settings of f32 numbers, as all `BiasSettings` of the code are
-pub record Singles (p : BiasSettings) : Type 0 where
+pub record SingleSettings (p : BiasSettings) : Type 0 where
   pub rate : T (fits binary32 (p .«sample_rate»))
   pub cutoff : T (fits binary32 (p .«cutoff_frequency»))
   pub threshold : T (fits binary32 (p .«stationary_threshold»))
@@ -68,7 +68,7 @@ pub record Singles (p : BiasSettings) : Type 0 where
 -- what was moved up moves down again, and gives the first bytes
 abbrev pub UpDown : Type 0
 UpDown =
-    (s : List ℕ) (p : BiasSettings) (t up u down : List ℕ) (n : ℕ) → Singles p → MovesUp s p t up 0
+    (s : List ℕ) (p : BiasSettings) (t up u down : List ℕ) (n : ℕ) → SingleSettings p → MovesUp s p t up 0
     → length u ≡ first .size → MovesDown up u down n → (n ≡ 0) × (down ≡ s)
 
 -- what was moved down moves up again with the settings that it had, and gives the first bytes
@@ -79,7 +79,7 @@ DownUp =
 
 -- the settings of a record that was moved up are those that were given
 abbrev pub Held : Type 0
-Held = (s : List ℕ) (p : BiasSettings) (t up : List ℕ) → Singles p → MovesUp s p t up 0 → settingsAt up ≡ p
+Held = (s : List ℕ) (p : BiasSettings) (t up : List ℕ) → SingleSettings p → MovesUp s p t up 0 → settingsAt up ≡ p
 
 -- where a move refuses it has written nothing
 pub record Unwritten : Type 0 where

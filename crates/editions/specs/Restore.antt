@@ -12,7 +12,7 @@ use Rattle.bias.specs.Estimator.{finiteBias}
 use Rattle.wire.specs.Wire.{u16At}
 use Rattle.offset.specs.Restore as offset
 use Rattle.editions.specs.Edition.{second, editionOf, editionChecks}
-use Rattle.editions.specs.Move.{MovesUp, MovesDown, Singles}
+use Rattle.editions.specs.Move.{MovesUp, MovesDown, SingleSettings}
 
 abbrev pub restoreChecks : Bias → List ℕ → ℕ → List Check
 restoreChecks b s m = editionChecks (editionOf (length s)) s m (finiteBias b)
@@ -46,7 +46,7 @@ AsBefore = (b : Bias) (s : List ℕ) (m : ℕ) (r old : Change) → (length s �
 
 -- a record that was moved is restored as it was before, or refused with the same number
 pub record SameOnceMoved : Type 0 where
-  pub up : (s : List ℕ) (p : BiasSettings) (t after : List ℕ) (b : Bias) (m : ℕ) (r moved : Change) → Singles p
+  pub up : (s : List ℕ) (p : BiasSettings) (t after : List ℕ) (b : Bias) (m : ℕ) (r moved : Change) → SingleSettings p
       → MovesUp s p t after 0 → Restores b s m r → Restores b after m moved → moved ≡ r
   pub down : (s t after : List ℕ) (b : Bias) (m : ℕ) (r moved : Change)
       → MovesDown s t after 0 → Restores b s m r → Restores b after m moved → moved ≡ r

@@ -1,4 +1,4 @@
-// A record moved to the other edition: up, with settings given, and down, with those that it has dropped.
+// A record moved to the other edition: up, given settings, and down, dropping them.
 use super::Edition;
 use super::FIRST;
 use super::SECOND;
@@ -17,7 +17,7 @@ pub(crate) fn put_part(source: &[u8], version: u16, out: &mut [u8])
     requires { ⌜ (18 ≤ length (now source)) × (18 ≤ length (now out)) ⌝ }
     ensures { λ _. ⌜ now (out .exit) ≡ partOf version (now (source .entry)) ++ drop 18 (now (out .entry)) ⌝ }
 {
-    bytes::copy(&source[0..18], out);
+    bytes::copy(&source[0..offset::LENGTH], out);
     wire::put_u16(out, 3, version);
 }
 
