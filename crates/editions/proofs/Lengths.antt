@@ -28,6 +28,8 @@ pub two-editions : TwoEditions
 two-editions b s m =
     let f = finiteBias b in
     record {
-      neither = λ h k. ap (λ (t : Bool). refusalOf (editionChecks (cond t second first) s m f)) (ne-eqb (length s) 34 k) ∙ at-once (recordChecks 18 1 s m f) [] 0 (other-length 18 1 s m f h);
+      neither = λ h k.
+          ap (λ (t : Bool). refusalOf (editionChecks (cond t second first) s m f)) (ne-eqb (length s) 34 k)
+          ∙ at-once (recordChecks 18 1 s m f) [] 0 (other-length 18 1 s m f h);
       either = λ z. taken s m f (eqb (length s) 34) z;
     }

@@ -10,7 +10,8 @@ returns c =
     let n = c .before in
     let f = n .before in
     let a = f .before .before .before .args in
-    stays _ _ _ (number (a .bias) (a .bytes .now) (a .mounting) (f .before .edition-of .ensures) (f .is-finite .ensures) (n .edition-refusal .ensures)) (c .if1 .taken)
+    let e = number (a .bias) (a .bytes .now) (a .mounting) (f .before .edition-of .ensures) (f .is-finite .ensures) (n .edition-refusal .ensures) in
+    stays _ _ _ e (c .if1 .taken)
 
 lowered-requires : tie.Need-lowered-requires
 lowered-requires c κs =
