@@ -3,11 +3,11 @@ use Prim.Native.Nat.{ℕ}
 use native.Mathlib.Omega.{arith}
 use mathlib.Core.Path.{_≡_, ap, refl}
 use mathlib.Core.Bool.{Bool, true, false, cond}
-use lib.IntN.{pos}
+use lib.IntN.{pos, negsuc}
 use lib.Signed.{mag}
 use lib.Count.{leadingZeros}
-use lib.Ieee.{Float, nan, fin, ofBits, toBits, eq, ne, lt, add, sub, mul, div, neg, sum, round, units, odd}
-use Rattle.number.proofs.Apart.{nought, one, unlike}
+use lib.Ieee.{Float, nan, fin, binary32, ofBits, toBits, eq, ne, lt, le, add, sub, mul, div, neg, sum, round, units, odd}
+use Rattle.number.proofs.Apart.{apart, bits, half, nought, one, two, unlike}
 use Rattle.root.specs.Root.{floorRoot, nearestRootOf, significandOf, exponentOf, squaredOf, rootBitsOf, sqrtOf}
 use Rattle.answer.specs.declared.Answer.the-variants.{Oriented, Refused}
 use Rattle.answer.specs.Refusals.{refusalOf}
@@ -32,7 +32,7 @@ use Rattle.step.specs.Rate.{startupGainOf, rateOf, integratedOf}
 use Rattle.ahrs.specs.Filter.{finiteState, freshOf, restartedOf, skippedStartup, withThreshold, withSettings, withSamplePeriod, withQuaternion}
 use Rattle.ahrs.specs.Filter.{overrangeOf, halfFeedbackOf, updatedOf}
 use Rattle.ahrs.specs.Read.{gravityOf, linearOf, earthFrameOf, withoutGravity, earthOf, flagsOf, statesOf}
-use Rattle.ahrs.specs.Calls.{Starts, Updates, Restarts, SkipsStartup, SetsSettings, SetsSamplePeriod, SetsQuaternion}
+use Rattle.ahrs.specs.Calls.{Starts, Updates, Restarts, SkipsStartup, SetsSettings, SetsSamplePeriod, settable, SetsQuaternion}
 use Rattle.ahrs.specs.Calls.{SettingsReads, QuaternionReads, VectorReads, FlagsReads, StatesReads}
 
 abbrev still : Vector
@@ -163,13 +163,61 @@ of-set-sample-period = (
   λ h. let e = ap (λ (s : Ahrs). s .config .«sample_period») (h .holds) in let z : _≡_ {A = ℕ} 0 1 = cc in omega arith,
 )
 
--- a NaN set; a quaternion that is accepted and not set
+-- a quaternion set, by the number of the answer, with the state left as it was
+abbrev Set : Quaternion → ℕ → Type 0
+Set q n = SetsQuaternion (at-start 0) q (record { state = at-start 0; number = n })
+
+abbrev in-w : Ahrs → ℕ
+in-w s = bits (s .quaternion .w)
+
+-- a NaN set, or asked for 9 before 5; a quaternion that is accepted and not set; one of zero set, or of a convention of 3 asked for 9 before 4
 pub of-set-quaternion
-    : (SetsQuaternion (at-start 0) (quaternion nan nought nought nought) (record { state = at-start 0; number = 0 }) → ⊥)
-    × (SetsQuaternion (at-start 0) (quaternion nought one nought nought) (record { state = at-start 0; number = 0 }) → ⊥)
+    : (Set (quaternion nan nought nought nought) 0 → ⊥)
+    × (Set (quaternion nan nought nought nought) 9 → ⊥)
+    × (Set (quaternion nought one nought nought) 0 → ⊥)
+    × (Set (quaternion nought nought nought nought) 0 → ⊥)
+    × (SetsQuaternion (at-start 3) (quaternion nought nought nought nought) (record { state = at-start 3; number = 9 }) → ⊥)
 unfolding refusalOf finiteState finiteSettings finiteConfig finiteQuaternion finiteVector finiteRejection withQuaternion
-of-set-quaternion =
-    (λ h. unlike 0 5 refl (h .number), λ h. let e = ap (λ (s : Ahrs). s .quaternion .w) (h .holds) in let z : _≡_ {A = ℕ} 0 1 = cc in omega arith)
+    settable normSquaredOf eq lt le add mul sum round units odd ofBits toBits
+of-set-quaternion = (
+  λ h. unlike 0 5 refl (h .number),
+  λ h. unlike 9 5 refl (h .number),
+  λ h. apart in-w (h .holds) refl,
+  λ h. unlike 0 9 refl (h .number),
+  λ h. unlike 9 4 refl (h .number),
+)
+
+-- 3 / 2 ^ 12
+abbrev three-parts : Float
+three-parts = fin false 3 (negsuc 11)
+
+-- 1 / 2 ^ 11
+abbrev tiny : Float
+tiny = fin false 1 (negsuc 10)
+
+-- each end of the squared norm left out, 0.25 and 4; a step below the one and a step above the other let in
+pub of-ends
+    : (Set (quaternion half nought nought nought) 9 → ⊥)
+    × (Set (quaternion nought nought two nought) 9 → ⊥)
+    × (Set (quaternion (ofBits binary32 0x3eff_ffff) (ofBits binary32 0x3900_0000) nought nought) 0 → ⊥)
+    × (Set (quaternion two three-parts nought nought) 0 → ⊥)
+unfolding refusalOf finiteState finiteSettings finiteConfig finiteQuaternion finiteVector finiteRejection
+    settable normSquaredOf eq lt le add mul sum round units odd ofBits
+of-ends = (
+  λ h. unlike 9 0 refl (h .number),
+  λ h. unlike 9 0 refl (h .number),
+  λ h. unlike 0 9 refl (h .number),
+  λ h. unlike 0 9 refl (h .number),
+)
+
+-- the norm tested and not its square, at 3/8 and at 3; the squares summed from the last to the first, which gives a step more than 4
+pub of-norm
+    : (Set (quaternion (fin false 3 (negsuc 2)) nought nought nought) 0 → ⊥)
+    × (Set (quaternion nought nought nought (fin false 3 (pos 0))) 0 → ⊥)
+    × (Set (quaternion two tiny tiny tiny) 9 → ⊥)
+unfolding refusalOf finiteState finiteSettings finiteConfig finiteQuaternion finiteVector finiteRejection
+    settable normSquaredOf eq lt le add mul sum round units odd ofBits
+of-norm = (λ h. unlike 0 9 refl (h .number), λ h. unlike 0 9 refl (h .number), λ h. unlike 9 0 refl (h .number))
 
 -- ---- reads
 

@@ -2,7 +2,7 @@
 use mathlib.Core.Path.{_≡_}
 use mathlib.Core.Bool.{Bool, true, not, _&&_}
 use mathlib.Core.List.{List, [], _∷_, _++_}
-use lib.Ieee.{Float, lt}
+use lib.Ieee.{Float, binary32, ofBits, lt, le}
 use lib.Ieee.Scale.{finite}
 use Rattle.number.specs.Float32.{zero}
 use Rattle.answer.specs.declared.Answer.{Answer}
@@ -13,7 +13,7 @@ use Rattle.answer.specs.Promises.{Answered, Changed, Moved}
 use Rattle.vector.specs.declared.Vector.{Vector}
 use Rattle.math.specs.declared.quaternion.Quaternion.{Quaternion}
 use Rattle.vector.specs.Vectors.{finiteVector}
-use Rattle.math.specs.Quaternions.{finiteQuaternion}
+use Rattle.math.specs.Quaternions.{finiteQuaternion, normSquaredOf}
 use Rattle.settings.specs.declared.Settings.{Settings}
 use Rattle.settings.specs.Config.{knownConvention, finiteSettings, soundSettings, derivedOf, finiteConfig, settingsChecks}
 use Rattle.ahrs.specs.declared.Ahrs.{Ahrs}
@@ -87,8 +87,20 @@ periodChecks s period =
 abbrev pub SetsSamplePeriod : Ahrs → Float → Change → Type 0
 SetsSamplePeriod s period r = Changed (periodChecks s period) (withSamplePeriod s period) s (r .state) (r .number)
 
+-- 0.25 and 4
+abbrev pub leastNormSquared : Float
+leastNormSquared = ofBits binary32 0x3e80_0000
+
+abbrev pub mostNormSquared : Float
+mostNormSquared = ofBits binary32 0x4080_0000
+
+-- 02 P6: the squared norm, in the Rust's order, is from 0.25 to 4, ends included
+unfoldable pub settable : Quaternion → Bool
+settable q = le leastNormSquared (normSquaredOf q) && le (normSquaredOf q) mostNormSquared
+
 abbrev pub quaternionChecks : Ahrs → Quaternion → List Check
-quaternionChecks s q = check 4 (not (knownConvention (s .settings))) ∷ check 5 (not (finiteState s && finiteQuaternion q)) ∷ []
+quaternionChecks s q =
+    check 4 (not (knownConvention (s .settings))) ∷ check 5 (not (finiteState s && finiteQuaternion q)) ∷ check 9 (not (settable q)) ∷ []
 
 abbrev pub SetsQuaternion : Ahrs → Quaternion → Change → Type 0
 SetsQuaternion s q r = Changed (quaternionChecks s q) (withQuaternion s q) s (r .state) (r .number)

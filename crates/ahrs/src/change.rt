@@ -10,7 +10,12 @@ ghost use mathlib.Core.Path.{_≡_};
 ghost use Rattle.answer.specs.Refusals.{refusalOf};
 ghost use Rattle.ahrs.specs.Filter.{freshOf, withThreshold, withSettings};
 ghost use Rattle.ahrs.specs.Calls.{Starts, Restarts, SkipsStartup};
-ghost use Rattle.ahrs.specs.Calls.{changeChecks, SetsSettings, periodChecks, SetsSamplePeriod, quaternionChecks, SetsQuaternion};
+ghost use Rattle.ahrs.specs.Calls.{changeChecks, SetsSettings, periodChecks, SetsSamplePeriod, settable, quaternionChecks, SetsQuaternion};
+
+// The squared norm of an orientation that may be set, both ends included.
+const LEAST_NORM_SQUARED: f32 = 0.25;
+
+const MOST_NORM_SQUARED: f32 = 4.0;
 
 // A start: the fresh state, or a refusal's number.
 pub enum Started {
@@ -31,6 +36,14 @@ fn with_threshold(rejection: Rejection, timeout: i32) -> Rejection
     let mut next = rejection;
     next.recovery_threshold = timeout;
     next
+}
+
+// A quaternion of zero, of which every update is refused, is never set.
+fn is_settable(quaternion: Quaternion) -> bool
+    ensures { λ r. ⌜ r ≡ settable quaternion ⌝ }
+{
+    let norm_squared = quaternion.norm_squared();
+    (norm_squared >= LEAST_NORM_SQUARED) & (norm_squared <= MOST_NORM_SQUARED)
 }
 
 impl Ahrs {
@@ -182,6 +195,9 @@ impl Ahrs {
         }
         if !(self.is_finite() & quaternion.is_finite()) {
             return 5;
+        }
+        if !is_settable(quaternion) {
+            return 9;
         }
         0
     }

@@ -13,7 +13,14 @@ quaternion-refusal-spec =
     let known = c .before .before .before in
     let finite = two (c .before .before .is-finite .ensures) (c .before .is-finite2 .ensures) (c .if2 .taken) in
     rw (one (known .before .is-known .ensures) (known .if1 .left), finite))
+    (λ c κs. tt)
     (λ c.
-    let known = c .before .before .before in
-    let finite = two (c .before .before .is-finite .ensures) (c .before .is-finite2 .ensures) (c .if2 .left) in
-    rw (one (known .before .is-known .ensures) (known .if1 .left), finite)))
+    let tested = c .before .before in
+    let known = tested .before .before .before in
+    let finite = two (tested .before .before .is-finite .ensures) (tested .before .is-finite2 .ensures) (tested .if2 .left) in
+    rw (one (known .before .is-known .ensures) (known .if1 .left), finite, one (c .before .is-settable .ensures) (c .if3 .taken)))
+    (λ c.
+    let tested = c .before .before in
+    let known = tested .before .before .before in
+    let finite = two (tested .before .before .is-finite .ensures) (tested .before .is-finite2 .ensures) (tested .if2 .left) in
+    rw (one (known .before .is-known .ensures) (known .if1 .left), finite, one (c .before .is-settable .ensures) (c .if3 .left))))
