@@ -148,11 +148,12 @@ pub(crate) fn read(state: Ahrs, x: f32, accelerometer: Vector, magnetometer: Vec
     }
 }
 
-// The number of an update after a zero quaternion was set.
-pub(crate) fn after_zero_quaternion(fresh: Ahrs) -> u8 {
-    let change = fresh.set_quaternion(Quaternion::new(0.0, 0.0, 0.0, 0.0));
-    let state = change.state;
-    let reading = state.update(Vector::ZERO, Vector::new(0.0, 0.0, 1.0), Vector::ZERO);
-    let answer = reading.answer;
-    answer.number()
+// A quaternion (w, x, 0, 0) set.
+pub(crate) fn set(fresh: Ahrs, w: f32, x: f32) -> Change {
+    fresh.set_quaternion(Quaternion::new(w, x, 0.0, 0.0))
+}
+
+// An update of a pole that stands upright.
+pub(crate) fn upright(state: Ahrs) -> Change {
+    read(state, 0.0, Vector::new(0.0, 0.0, 1.0), Vector::ZERO)
 }

@@ -11,6 +11,7 @@ use bias::BiasSettings;
 use bias::Started;
 use filter::Beginning;
 use libc::STDOUT_FILENO;
+use math::Quaternion;
 use offset::Offset;
 use offset::RecordRead;
 use vector::Vector;
@@ -248,9 +249,65 @@ fn print_lowered() {
     print_shown(filter::shown(state));
     print_readings(state);
     print_changes(state);
-    say(b"zero quaternion set, then update:");
-    refused(filter::after_zero_quaternion(fresh));
+}
+
+fn print_set(fresh: Ahrs, w: f32, x: f32) {
+    let change = filter::set(fresh, w, x);
+    say(b"quaternion of squared norm");
+    bits(Quaternion::new(w, x, 0.0, 0.0).norm_squared());
+    say(b" set, answer ");
+    count(change.number as u64);
     say(b"\n");
+}
+
+// A quaternion is set where its squared norm is from 0.25 to 4: both ends, and a step outside each.
+fn print_ends() {
+    let Beginning::At(fresh) = filter::begin(filter::settings(100.0, 0.5, 1.0)) else {
+        return;
+    };
+    print_set(fresh, 0.0, 0.0);
+    print_set(
+        fresh,
+        wire::float_of(0x3eff_ffff),
+        wire::float_of(0x3900_0000),
+    );
+    print_set(fresh, 0.5, 0.0);
+    print_set(fresh, 2.0, 0.0);
+    print_set(fresh, 2.0, wire::float_of(0x3a40_0000));
+}
+
+fn print_answer(name: &[u8], change: Change) {
+    say(name);
+    say(b", answer ");
+    count(change.number as u64);
+    say(b":");
+    let state = change.state;
+    let q = state.quaternion;
+    bits(q.w);
+    bits(q.x);
+    bits(q.y);
+    bits(q.z);
+    say(b"\n");
+}
+
+// The smallest rate about one axis, at 100 Hz from a start, whose turn overflows; and what ends the zeros that it leaves.
+fn print_overflow() {
+    let Beginning::At(fresh) = filter::begin(filter::settings(100.0, 0.5, 1.0)) else {
+        return;
+    };
+    let zero = Vector::ZERO;
+    let below = wire::float_of(0x6633_0c9f);
+    let least = wire::float_of(0x6633_0ca0);
+    print_answer(
+        b"rate 66330c9f at 100 Hz",
+        filter::read(fresh, below, zero, zero),
+    );
+    let over = filter::read(fresh, least, zero, zero);
+    print_answer(b"rate 66330ca0 at 100 Hz", over);
+    let state = over.state;
+    print_answer(b"an update after it", filter::upright(state));
+    print_answer(b"a restart after it", state.restart());
+    print_answer(b"a quaternion set after it", filter::set(state, 0.5, 0.0));
 }
 
 fn main() {
@@ -263,4 +320,6 @@ fn main() {
     print_range();
     print_startup();
     print_lowered();
+    print_ends();
+    print_overflow();
 }

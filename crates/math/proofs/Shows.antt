@@ -18,10 +18,10 @@ Finite x = finite x ≡ true
 abbrev FiniteQuaternion : Quaternion → Type 0
 FiniteQuaternion q = finiteQuaternion q ≡ true
 
-abbrev Components : Quaternion → Type 0
+abbrev pub Components : Quaternion → Type 0
 Components q = Finite (q .w) × Finite (q .x) × Finite (q .y) × Finite (q .z)
 
-components : (q : Quaternion) → FiniteQuaternion q → Components q
+pub components : (q : Quaternion) → FiniteQuaternion q → Components q
 unfolding finiteQuaternion
 components q h =
     let (f, l) = both (finite (q .w) && finite (q .x) && finite (q .y)) (finite (q .z)) h in

@@ -1,9 +1,9 @@
--- A number that its format holds rounds to itself. Assumes nothing.
-use mathlib.Core.Path.{_≡_, ap, sym, _∙_, subst}
+-- A number that its format holds is a whole number of the format's smallest, and rounds to itself. Assumes nothing.
+use mathlib.Core.Path.{_≡_, refl, ap, sym, _∙_, subst}
 use mathlib.Core.Bool.{Bool, _&&_, cond}
-use Prim.Native.Nat.{ℕ, suc, _+_, _-_, _*_, _/_, _^_, _%_, _≤_, _<_}
+use Prim.Native.Nat.{ℕ, zero, suc, _+_, _-_, _*_, _/_, _^_, _%_, _≤_, _<_}
 use native.Mathlib.Decide.{decLt}
-use native.Mathlib.Nat.{mul-one, mul-assoc, mul-comm, mul-right-comm, mul-lt-mul-of-pos-right, lt-of-mul-lt-mul-right}
+use native.Mathlib.Nat.{zero-mul, mul-one, mul-assoc, mul-comm, mul-right-comm, mul-lt-mul-of-pos-right, lt-of-mul-lt-mul-right}
 use native.Mathlib.Omega.{arith}
 use lib.Pow.{pow-add, pow-pos, pow-lt}
 use lib.IntN.{ℤ, pos, negsuc}
@@ -54,31 +54,33 @@ pow-le i j h (yes g) = let p = pow-lt g in absurd (omega arith)
 pow-le i j h (no g) = omega arith
 
 -- such a number is a whole number of the format's smallest
-module _ (f : Format) (s : Bool) (m : ℕ) (e : ℤ) (h : Held f m e) where
-  by-units : (j : ℕ) → m * up e * 2 ^ low f ≡ m * 2 ^ j * down e → HasValue (round f s (m * up e) (down e)) s (m * up e) (down e)
-  by-units j k =
-      round-exact f s (m * up e) (down e) m j (down-pos e) (h .digits)
-      (lt-of-mul-lt-mul-right (down e)
-      (subst (λ (a : ℕ). a < 2 ^ (low f + suc (emax f)) * down e) k
-      (subst (λ (a : ℕ). m * up e * 2 ^ low f < a) turned (mul-lt-mul-of-pos-right (h .most) (pow-pos (low f))))))
-      k
-    where
-      turned : 2 ^ suc (emax f) * down e * 2 ^ low f ≡ 2 ^ (low f + suc (emax f)) * down e
-      turned =
-          mul-right-comm (2 ^ suc (emax f)) (down e) (2 ^ low f)
-          ∙ ap (λ (a : ℕ). a * down e) (mul-comm (2 ^ suc (emax f)) (2 ^ low f) ∙ sym (pow-add 2 (low f) (suc (emax f))))
+whole : (f : Format) (m : ℕ) (e : ℤ) → down e ≤ 2 ^ low f → (j : ℕ) × (m * up e * 2 ^ low f ≡ m * 2 ^ j * down e)
+whole f m (pos k) h =
+    (k + low f, mul-assoc m (2 ^ k) (2 ^ low f) ∙ ap (λ (a : ℕ). m * a) (sym (pow-add 2 k (low f))) ∙ sym (mul-one (m * 2 ^ (k + low f))))
+whole f m (negsuc k) h =
+    let room : suc k ≤ low f = pow-le (suc k) (low f) h (decLt (low f) (suc k)) in
+    let j = low f - suc k in
+    let all : j + suc k ≡ low f = omega arith in
+    let split : 2 ^ j * 2 ^ suc k ≡ 2 ^ low f = sym (pow-add 2 j (suc k)) ∙ ap (λ (a : ℕ). 2 ^ a) all in
+    (j, ap (λ (a : ℕ). a * 2 ^ low f) (mul-one m) ∙ ap (λ (a : ℕ). m * a) (sym split) ∙ sym (mul-assoc m (2 ^ j) (2 ^ suc k)))
+
+pub whole-number : (f : Format) (s : Bool) (m : ℕ) (e : ℤ) → T (fits f (fin s m e)) → (a : ℕ) × HasValue (fin s m e) s a (2 ^ low f)
+whole-number f s zero e t = (0, (refl, ap (λ (a : ℕ). a * 2 ^ low f) (zero-mul (up e)) ∙ zero-mul (2 ^ low f) ∙ sym (zero-mul (down e))))
+whole-number f s (suc m) e t = let (j, h) = whole f (suc m) e (held f s m e t .least) in (suc m * 2 ^ j, (refl, h))
 
 own-value : (f : Format) (s : Bool) (m : ℕ) (e : ℤ) → Held f m e → HasValue (round f s (m * up e) (down e)) s (m * up e) (down e)
-own-value f s m (pos k) h =
-    by-units f s m (pos k) h (k + low f)
-    (mul-assoc m (2 ^ k) (2 ^ low f) ∙ ap (λ (a : ℕ). m * a) (sym (pow-add 2 k (low f))) ∙ sym (mul-one (m * 2 ^ (k + low f))))
-own-value f s m (negsuc k) h =
-    let room : suc k ≤ low f = pow-le (suc k) (low f) (h .least) (decLt (low f) (suc k)) in
-    let j = low f - suc k in
-    let whole : j + suc k ≡ low f = omega arith in
-    let split : 2 ^ j * 2 ^ suc k ≡ 2 ^ low f = sym (pow-add 2 j (suc k)) ∙ ap (λ (a : ℕ). 2 ^ a) whole in
-    by-units f s m (negsuc k) h j
-    (ap (λ (a : ℕ). a * 2 ^ low f) (mul-one m) ∙ ap (λ (a : ℕ). m * a) (sym split) ∙ sym (mul-assoc m (2 ^ j) (2 ^ suc k)))
+own-value f s m e h =
+    let (j, k) = whole f m e (h .least) in
+    round-exact f s (m * up e) (down e) m j (down-pos e) (h .digits)
+    (lt-of-mul-lt-mul-right (down e)
+    (subst (λ (a : ℕ). a < 2 ^ (low f + suc (emax f)) * down e) k
+    (subst (λ (a : ℕ). m * up e * 2 ^ low f < a) turned (mul-lt-mul-of-pos-right (h .most) (pow-pos (low f))))))
+    k
+  where
+    turned : 2 ^ suc (emax f) * down e * 2 ^ low f ≡ 2 ^ (low f + suc (emax f)) * down e
+    turned =
+        mul-right-comm (2 ^ suc (emax f)) (down e) (2 ^ low f)
+        ∙ ap (λ (a : ℕ). a * down e) (mul-comm (2 ^ suc (emax f)) (2 ^ low f) ∙ sym (pow-add 2 (low f) (suc (emax f))))
 
 pub round-own : (f : Format) (s : Bool) (m : ℕ) (e : ℤ) → T (fits f (fin s (suc m) e)) → round f s (suc m * up e) (down e) ≡ fin s (suc m) e
 round-own f s m e t = go (round f s a c) (round-fits f s a c) (own-value f s (suc m) e (held f s m e t))

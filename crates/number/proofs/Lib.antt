@@ -2,9 +2,12 @@
 pub mod Signs  -- the operations under a change of sign
 pub mod Same  -- floats that are the same number give results that are; on Signs
 pub mod Size  -- what the tests of `fabsf`, `is_larger` and `is_finite` say
-pub mod Exact  -- a number that its format holds rounds to itself
+pub mod Exact  -- a number that its format holds is a whole number of the smallest, and rounds to itself
 pub mod Plain  -- x + 0.0 is x without the sign of a zero; on Signs, Size and Exact
+pub mod Zeros  -- a product with a zero and a sum of two are zeros; on Signs
 pub mod Finite  -- a finite sum, difference or product shows finite operands
+pub mod Rounding  -- a rounded fraction lies near the fraction
+pub mod Units  -- products, sums and reciprocals in units of the smallest f32; on Signs, Exact and Rounding
 pub mod Quotient  -- the quotient of two whole numbers is finite
 pub mod Unsigned  -- what the tests of `to_u32` say
 pub mod Signed  -- a float against the ends of 32 bits, and what it is cut to

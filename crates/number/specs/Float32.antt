@@ -23,3 +23,6 @@ one = ofBits binary32 0x3f80_0000
 
 abbrev pub two : Float
 two = ofBits binary32 0x4000_0000
+
+abbrev pub infinity : Float
+infinity = ofBits binary32 0x7f80_0000

@@ -1,4 +1,5 @@
--- What an accepted start, settings change or update says: settings that derive a finite configuration and a T not below 0, or a finite next state.
+-- What an accepted start, settings change, update or quaternion says: settings that derive a finite configuration and a T not below 0, a finite next
+-- state, or a finite quaternion of a length that may be set.
 -- Assumes nothing.
 use mathlib.Core.Path.{_≡_}
 use mathlib.Core.Bool.{true, not, _&&_}
@@ -12,12 +13,14 @@ use Rattle.answer.proofs.Answering.{passed}
 use Rattle.answer.proofs.Tests.{both, untrue}
 use Rattle.vector.specs.declared.Vector.{Vector}
 use Rattle.vector.specs.Vectors.{finiteVector}
+use Rattle.math.specs.declared.quaternion.Quaternion.{Quaternion}
+use Rattle.math.specs.Quaternions.{finiteQuaternion}
 use Rattle.rejection.specs.Inside.{NotBelow}
 use Rattle.settings.specs.declared.Settings.{Settings}
 use Rattle.settings.specs.Config.{knownConvention, finiteSettings, soundSettings, derivedOf, finiteConfig, settingsChecks}
 use Rattle.ahrs.specs.declared.Ahrs.{Ahrs}
 use Rattle.ahrs.specs.Filter.{finiteState, updatedOf}
-use Rattle.ahrs.specs.Calls.{updateChecks, changeChecks}
+use Rattle.ahrs.specs.Calls.{updateChecks, changeChecks, settable, quaternionChecks}
 use Rattle.reached.proofs.Timeouts.{product-cut}
 
 timeout-cut : (t : Settings) → finiteSettings t ≡ true → soundSettings t ≡ true → NotBelow (pos 0) (derivedOf t .«rejection_timeout»)
@@ -70,3 +73,9 @@ update-accepted s g a m e =
     let k = passed 3 (knownConvention (s .settings)) _ e in
     let f = passed 4 (finiteState s && (finiteVector g && finiteVector a && finiteVector m)) _ (k .1) in
     passed 6 (finiteState (updatedOf s g a m)) [] (f .1) .0
+
+pub quaternion-accepted : (s : Ahrs) (q : Quaternion) → refusalOf (quaternionChecks s q) ≡ 0 → (finiteQuaternion q ≡ true) × (settable q ≡ true)
+quaternion-accepted s q e =
+    let k = passed 3 (knownConvention (s .settings)) _ e in
+    let f = passed 4 (finiteState s && finiteQuaternion q) _ (k .1) in
+    (both (finiteState s) (finiteQuaternion q) (f .0) .1, passed 8 (settable q) [] (f .1) .0)

@@ -1,14 +1,12 @@
 -- From a fresh filter every state is sound: `StaysSound` holds. Assumes nothing.
 use mathlib.Core.Path.{_≡_}
 use mathlib.Core.Bool.{_&&_}
-use mathlib.Core.List.{[]}
 use lib.Ieee.Scale.{finite}
 use Rattle.answer.specs.Refusals.{refusalOf}
 use Rattle.answer.specs.Runs.{stepOf}
 use Rattle.answer.proofs.Answering.{passed}
 use Rattle.answer.proofs.Tests.{both}
 use Rattle.answer.proofs.Running.{settled, kept}
-use Rattle.math.specs.Quaternions.{finiteQuaternion}
 use Rattle.settings.specs.declared.Settings.{Settings}
 use Rattle.settings.specs.Config.{knownConvention, derivedOf, settingsChecks}
 use Rattle.ahrs.specs.declared.Ahrs.{Ahrs}
@@ -16,7 +14,7 @@ use Rattle.ahrs.specs.Filter.{finiteState, freshOf, restartedOf, skippedStartup
 use Rattle.ahrs.specs.Calls.{updateChecks, stateChecks, changeChecks, periodChecks, quaternionChecks}
 use Rattle.reached.specs.Runs.{Call, update, restart, skip-startup, set-settings, set-sample-period, set-quaternion, outlineOf}
 use Rattle.reached.specs.Reached.{Sound, StaysSound}
-use Rattle.reached.proofs.Accepting.{start-accepted, change-accepted, update-accepted}
+use Rattle.reached.proofs.Accepting.{start-accepted, change-accepted, update-accepted, quaternion-accepted}
 use Rattle.reached.proofs.Sound.{updated-sound, startup-sound, fresh-sound, restarted-sound, settings-sound, period-sound, quaternion-sound}
 
 after-call : (s : Ahrs) → Sound s → (c : Call) → Sound (stepOf outlineOf s c .state)
@@ -36,11 +34,7 @@ after-call s h (set-sample-period p) =
     let f = passed 4 (finiteState s && finite p) _ (k .1) in
     period-sound s p h (both (finiteState s) (finite p) (f .0) .1))
 after-call s h (set-quaternion q) =
-    settled Sound (refusalOf (quaternionChecks s q)) (withQuaternion s q) s h
-    (λ e.
-    let k = passed 3 (knownConvention (s .settings)) _ e in
-    let f = passed 4 (finiteState s && finiteQuaternion q) [] (k .1) in
-    quaternion-sound s q h (both (finiteState s) (finiteQuaternion q) (f .0) .1))
+    settled Sound (refusalOf (quaternionChecks s q)) (withQuaternion s q) s h (λ e. quaternion-sound s q h (quaternion-accepted s q e .0))
 
 started-sound : (t : Settings) → refusalOf (settingsChecks t) ≡ 0 → Sound (freshOf t (derivedOf t))
 started-sound t e =

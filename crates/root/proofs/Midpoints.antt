@@ -94,17 +94,21 @@ Mid b c =
     (4 * (sizeAt b * 2 ^ 149) < (sizeAt c + sizeAt (c + 1)) * (sizeAt c + sizeAt (c + 1)))
 
 module _ (b : ℕ) (f : Finite b) where
-  k : ℕ
+  pub k : ℕ
   k = exponentOf b / 2
 
-  q : ℕ
+  pub q : ℕ
   q = nearestRootOf (squaredOf b)
 
   k-pos : 1 ≤ k
   unfolding k
   k-pos = omega (arith, exponent-range b f .0)
 
-  squared-is : sizeAt b * 2 ^ 149 ≡ squaredOf b * (2 ^ k * 2 ^ k)
+  pub k-small : k ≤ 189
+  unfolding k
+  k-small = omega (arith, exponent-range b f .1)
+
+  pub squared-is : sizeAt b * 2 ^ 149 ≡ squaredOf b * (2 ^ k * 2 ^ k)
   unfolding k
   squared-is = as-significand b f ∙ as-square b
 
@@ -112,15 +116,15 @@ module _ (b : ℕ) (f : Finite b) where
   unfolding k q rootBitsOf
   bits-is = refl
 
-  q-near : Near (squaredOf b) q
+  pub q-near : Near (squaredOf b) q
   unfolding q
   q-near = squared-near b f
 
-  q-range : (8388608 ≤ q) × (q < 16777216)
+  pub q-range : (8388608 ≤ q) × (q < 16777216)
   unfolding q
   q-range = digits-range b f
 
-  at : sizeAt (rootBitsOf b) ≡ q * 2 ^ k
+  pub at : sizeAt (rootBitsOf b) ≡ q * 2 ^ k
   at = ap sizeAt bits-is ∙ size-at k q (q-range .0) (omega (arith, q-range .1))
 
   at-next : sizeAt (rootBitsOf b + 1) ≡ (q + 1) * 2 ^ k

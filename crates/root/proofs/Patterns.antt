@@ -43,7 +43,7 @@ read b h =
     let whole : b % 0x8000_0000 ≡ b = omega arith in
     simp (unsigned, whole) (by-fields false (b / 8388608) (b % 8388608) (omega arith))
 
-size-of-value : (x : Float) (a : ℕ) → HasValue x false a (2 ^ 149) → sizeOf x ≡ a
+pub size-of-value : (x : Float) (a : ℕ) → HasValue x false a (2 ^ 149) → sizeOf x ≡ a
 size-of-value nan a h = absurd h
 size-of-value (inf s) a h = absurd h
 size-of-value (fin s m e) a h = ap (λ (y : ℕ). y / down e) (h .1) ∙ mul-div-cancel a (down-pos e)

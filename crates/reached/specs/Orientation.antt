@@ -1,0 +1,107 @@
+-- 02 P6: the orientation of a reached state may be set again, or it is all zero. No start, no restart and no quaternion that is set leaves zeros; an
+-- update does exactly where the squared norm of what it turned is infinite. Then no update is accepted, until a restart or a quaternion that is set.
+use mathlib.Core.Path.{_≡_}
+use mathlib.Core.Bool.{Bool, true, false, cond, _&&_, _||_}
+use mathlib.Core.List.{List, [], _∷_}
+use lib.Ieee.{eq}
+use Rattle.number.specs.Float32.{zero, infinity}
+use Rattle.answer.specs.Refusals.{refusalOf, accepted}
+use Rattle.answer.specs.Runs.{number, stepOf, runOf, Throughout}
+use Rattle.vector.specs.declared.Vector.{Vector}
+use Rattle.vector.specs.Vectors.{finiteVector, mulOf}
+use Rattle.math.specs.declared.quaternion.Quaternion.{Quaternion}
+use Rattle.math.specs.Quaternions.{quaternion, finiteQuaternion, eqOf, vectorProductOf, normSquaredOf, addOf, normalizeOf}
+use Rattle.settings.specs.declared.Settings.{Settings}
+use Rattle.settings.specs.Config.{derivedOf}
+use Rattle.step.specs.Rate.{startupGainOf, rateOf}
+use Rattle.ahrs.specs.declared.Ahrs.{Ahrs}
+use Rattle.ahrs.specs.Filter.{freshOf, restartedOf, withQuaternion, overrangeOf, halfFeedbackOf, updatedOf}
+use Rattle.ahrs.specs.Calls.{updateChecks, stateChecks, settable, quaternionChecks}
+use Rattle.reached.specs.Runs.{Call, update, restart, skip-startup, set-settings, set-sample-period, set-quaternion, outlineOf}
+use Rattle.reached.specs.Reached.{Sound}
+
+-- all four are zero, of either sign
+abbrev pub allZero : Quaternion → Bool
+allZero q = eqOf q (quaternion zero zero zero zero)
+
+-- the orientation that an update has turned, and not yet normalized
+unfoldable pub turnedOf : Ahrs → Vector → Vector → Vector → Quaternion
+turnedOf s gyroscope accelerometer magnetometer =
+    let now = overrangeOf s gyroscope in
+    let startup = startupGainOf (now .config) (now .startup) (now .«startup_gain») (now .«overrange_recovery») in
+    let feedback = halfFeedbackOf now accelerometer magnetometer (startup .startup) in
+    let rate = rateOf gyroscope (feedback .«half_feedback») (startup .gain) in
+    addOf (now .quaternion) (vectorProductOf (now .quaternion) (mulOf rate (now .config .«sample_period»)))
+
+abbrev pub Normalized : Type 0
+Normalized = (s : Ahrs) (g a m : Vector) → updatedOf s g a m .quaternion ≡ normalizeOf (turnedOf s g a m)
+
+-- its squared norm is infinite, and so the root; the reciprocal is zero
+abbrev pub overflows : Ahrs → Vector → Vector → Vector → Bool
+overflows s g a m = eq (normSquaredOf (turnedOf s g a m)) infinity
+
+-- ---- when it is zero
+
+-- whether a call leaves an orientation of zero
+abbrev pub zeroAfter : Ahrs → Call → Bool
+zeroAfter s (update g a m) = accepted (refusalOf (updateChecks s g a m)) (overflows s g a m) (allZero (s .quaternion))
+zeroAfter s restart = accepted (refusalOf (stateChecks s)) false (allZero (s .quaternion))
+zeroAfter s (set-quaternion q) = accepted (refusalOf (quaternionChecks s q)) false (allZero (s .quaternion))
+zeroAfter s skip-startup = allZero (s .quaternion)
+zeroAfter s (set-settings t) = allZero (s .quaternion)
+zeroAfter s (set-sample-period p) = allZero (s .quaternion)
+
+-- so it is of a start, and of every call on any state
+pub record ZeroExactly : Type 0 where
+  pub fresh : (t : Settings) → allZero (freshOf t (derivedOf t) .quaternion) ≡ false
+  pub step : (s : Ahrs) (c : Call) → allZero (stepOf outlineOf s c .state .quaternion) ≡ zeroAfter s c
+
+-- whether a call is an update that overflows
+abbrev pub overflowing : Ahrs → Call → Bool
+overflowing s (update g a m) = overflows s g a m
+overflowing s restart = false
+overflowing s skip-startup = false
+overflowing s (set-settings t) = false
+overflowing s (set-sample-period p) = false
+overflowing s (set-quaternion q) = false
+
+-- none of the run is
+abbrev pub Calm : Ahrs → List Call → Type 0
+Calm s [] = Unit {0}
+Calm s (c ∷ cs) = (overflowing s c ≡ false) × Calm (stepOf outlineOf s c .state) cs
+
+-- and then no state of it has an orientation of zero
+abbrev pub NeverZero : Type 0
+NeverZero =
+    (t : Settings) (cs : List Call) → Calm (freshOf t (derivedOf t)) cs
+    → Throughout (λ (s : Ahrs). allZero (s .quaternion) ≡ false) (runOf outlineOf (freshOf t (derivedOf t)) cs)
+
+-- ---- where it is not zero, it may be set again
+
+abbrev pub ZeroOrSettable : Ahrs → Type 0
+ZeroOrSettable s = (allZero (s .quaternion) || settable (s .quaternion)) ≡ true
+
+pub record SetAgain : Type 0 where
+  -- so it is of every reached state
+  pub reached
+      : (t : Settings) (cs : List Call)
+      → ZeroOrSettable (freshOf t (derivedOf t)) × Throughout ZeroOrSettable (runOf outlineOf (freshOf t (derivedOf t)) cs)
+  -- its own orientation is accepted, and changes nothing
+  pub itself
+      : (s : Ahrs) → Sound s → ZeroOrSettable s → allZero (s .quaternion) ≡ false
+      → stepOf outlineOf s (set-quaternion (s .quaternion)) ≡ record { state = s; told = number 0 }
+
+-- ---- from zero
+
+-- every update is refused, with 5 where a reading is not finite and otherwise with 7
+abbrev pub Stuck : Type 0
+Stuck =
+    (s : Ahrs) → Sound s → allZero (s .quaternion) ≡ true → (g a m : Vector)
+    → refusalOf (updateChecks s g a m) ≡ cond (finiteVector g && finiteVector a && finiteVector m) 7 5
+
+-- a restart is accepted, and a quaternion that may be set
+pub record WayOut : Type 0 where
+  pub by-restart : (s : Ahrs) → Sound s → stepOf outlineOf s restart ≡ record { state = restartedOf s; told = number 0 }
+  pub by-quaternion
+      : (s : Ahrs) → Sound s → (q : Quaternion) → finiteQuaternion q ≡ true → settable q ≡ true
+      → stepOf outlineOf s (set-quaternion q) ≡ record { state = withQuaternion s q; told = number 0 }
