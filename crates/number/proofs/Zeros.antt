@@ -5,8 +5,7 @@ use Prim.Native.Nat.{ℕ, zero, suc, _*_, _<_}
 use native.Mathlib.Nat as nat
 use native.Mathlib.Nat.{zero-mul, mul-pos, zero-lt-suc}
 use native.Mathlib.Omega.{arith}
-use lib.Dec.{eqb}
-use lib.Ieee.{Float, nan, inf, fin, Format, binary32, up, down, unlike, round, neg, sum, add, sub, mul, eq, ofBits}
+use lib.Ieee.{Float, nan, inf, fin, Format, up, down, unlike, round, neg, sum, add, sub, mul, eq, ofBits}
 use lib.Ieee.Fits.{up-pos}
 use lib.Ieee.Scale.{finite}
 use borrow.Author.Tests.{eqb-true}

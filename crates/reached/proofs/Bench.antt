@@ -2,7 +2,7 @@
 use Prim.Native.Nat.{ℕ}
 use mathlib.Core.Path.{_≡_, refl}
 use mathlib.Core.Bool.{true, false}
-use lib.Ieee.{Float, binary32, ofBits, eq, ne, lt, add, sub, mul, div, neg, sum, round, units, odd}
+use lib.Ieee.{binary32, ofBits, eq, ne, lt, add, sub, mul, div, neg, sum, round, units, odd}
 use Rattle.number.proofs.Apart.{nought, half, one}
 use Rattle.vector.specs.declared.Vector.{Vector}
 use Rattle.vector.specs.Vectors.{vector}

@@ -1,6 +1,6 @@
 -- When the orientation is zero, and what it is otherwise: `ZeroExactly`, `NeverZero` and `SetAgain` hold. Assumes nothing.
 use Prim.Native.Nat.{ℕ, zero, suc}
-use mathlib.Core.Path.{_≡_, refl, sym, ap, _∙_}
+use mathlib.Core.Path.{_≡_, refl, ap, _∙_}
 use mathlib.Core.Bool.{Bool, true, false, _||_, or-true, true≢false}
 use mathlib.Core.List.{List, [], _∷_}
 use lib.Ieee.{ofBits, eq, lt, le, add, mul, sum, round, units, odd}

@@ -1,11 +1,11 @@
 -- What an accepted update makes of the orientation: zeros exactly where it overflows, and otherwise one that may be set. Assumes nothing.
 use mathlib.Core.Path.{_≡_, refl, subst, sym}
-use mathlib.Core.Bool.{Bool, true, false}
+use mathlib.Core.Bool.{true, false}
 use lib.Ieee.{binary32}
 use lib.Ieee.Fits.{add-fits}
 use Rattle.vector.specs.declared.Vector.{Vector}
 use Rattle.math.specs.declared.quaternion.Quaternion.{Quaternion}
-use Rattle.math.specs.Quaternions.{finiteQuaternion, addOf, normalizeOf}
+use Rattle.math.specs.Quaternions.{finiteQuaternion, addOf}
 use Rattle.math.proofs.Length.{Fits}
 use Rattle.math.proofs.Normal.{Normal, normal}
 use Rattle.step.specs.Rate.{integratedOf}
