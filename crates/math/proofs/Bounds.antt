@@ -1,6 +1,6 @@
--- Four squares, each rounded, and summed with three roundings: the sum lies from a half to three times the exact one, even where the squares are no more
--- than a few of the smallest f32. Whole numbers only, u for the number 1 in units of the smallest. The bounds are coarse: 1 / 256 stands for 2 ^ -24.
--- Assumes nothing.
+-- Four squares, each rounded, and summed with three roundings: the sum lies from about a third to about twice the exact one, even where the squares
+-- are no more than a few of the smallest f32. Whole numbers only, u for the number 1 in units of the smallest. The bounds are coarse: 1 / 256 stands for
+-- 2 ^ -24. Assumes nothing.
 use mathlib.Core.Path.{_≡_, ap}
 use mathlib.Core.Logic.{inl, inr}
 use Prim.Native.Nat.{ℕ, _+_, _*_, _≤_, _<_}

@@ -95,14 +95,13 @@ module _ (q : Quaternion) (a b c d : ℕ) (h : InUnits q a b c d) where
 
 -- ---- how near
 
-module _ (a b c d : ℕ) where
-  pub sum-squares : 0 < norm-of a b c d → Squares (2 ^ 149) (a * a + b * b + c * c + d * d) (norm-of a b c d)
-  sum-squares N =
-      squares (2 ^ 149) (times a a) (times b b) (times c c) (times d d)
-      (near (times-near a a)) (near (times-near b b)) (near (times-near c c)) (near (times-near d d))
-      (close (times a a) (times b b) (times c c) (times d d) (plus-near (times a a) (times b b)) (plus-near (two-of a b) (times c c))
-      (plus-near (three-of a b c) (times d d)))
-      N
+pub sum-squares : (a b c d : ℕ) → 0 < norm-of a b c d → Squares (2 ^ 149) (a * a + b * b + c * c + d * d) (norm-of a b c d)
+sum-squares a b c d N =
+    squares (2 ^ 149) (times a a) (times b b) (times c c) (times d d)
+    (near (times-near a a)) (near (times-near b b)) (near (times-near c c)) (near (times-near d d))
+    (close (times a a) (times b b) (times c c) (times d d) (plus-near (times a a) (times b b)) (plus-near (two-of a b) (times c c))
+    (plus-near (three-of a b c) (times d d)))
+    N
 
 -- the sum lies from a quarter to four, and nothing on the way is above four
 abbrev pub Range : ℕ → ℕ → ℕ → ℕ → Type 0

@@ -35,20 +35,20 @@ nearest-half n u U =
 
 -- ---- a fraction n / c of which the p leading digits are kept
 
--- the last digit that is kept is 1, or n / c has p digits of it
+turned : (q c t : ℕ) → q * (c * t) ≡ q * t * c
+turned q c t = omega arith
+
+-- no digit is dropped, or n / c has p digits from the last that is kept
 last-digit : (p n c : ℕ) → 0 < p → 0 < c → (c * 2 ^ drop p n c ≡ c) ⊎ (2 ^ (p - 1) * (c * 2 ^ drop p n c) ≤ n)
 last-digit p n c P C = elim (eq-zero-or-pos k) [
   | inl z ↦ inl (ap (λ (x : ℕ). c * 2 ^ x) z ∙ mul-one c)
   | inr g ↦
-      inr (le-trans (le-of-eq (turned (2 ^ (p - 1)) (2 ^ k)))
+      inr (le-trans (le-of-eq (turned (2 ^ (p - 1)) c (2 ^ k)))
       (le-div-iff-mul-le C .0 (le-trans (le-of-eq (sym (pow-add 2 (p - 1) k))) (size-reaches (n / c) (p - 1 + k) (inside (size (n / c)) P g)))))
 ]
   where
     k : ℕ
     k = drop p n c
-
-    turned : (h t : ℕ) → h * (c * t) ≡ h * t * c
-    turned h t = omega arith
 
     inside : (z : ℕ) → 0 < p → 0 < z - p → p - 1 + (z - p) < z
     inside z P g = omega arith
@@ -56,10 +56,7 @@ last-digit p n c P C = elim (eq-zero-or-pos k) [
 kept-half : (p n c : ℕ) → 0 < c → Half (c * 2 ^ drop p n c) (kept p n c * 2 ^ drop p n c * c) n
 kept-half p n c C =
     let k = drop p n c in
-    subst (λ (x : ℕ). Half (c * 2 ^ k) x n) (turned (kept p n c) (2 ^ k)) (nearest-half n (c * 2 ^ k) (mul-pos C (pow-pos k)))
-  where
-    turned : (q t : ℕ) → q * (c * t) ≡ q * t * c
-    turned q t = omega arith
+    subst (λ (x : ℕ). Half (c * 2 ^ k) x n) (turned (kept p n c) c (2 ^ k)) (nearest-half n (c * 2 ^ k) (mul-pos C (pow-pos k)))
 
 -- ---- an f32, in units of the smallest, 2 ^ -149
 

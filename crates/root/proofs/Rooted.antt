@@ -1,4 +1,4 @@
--- The square of a root lies within 2 ^ -23 of the number, and the root is below 2 ^ 64. Assumes nothing.
+-- The square of a root lies within 2 ^ -23 of the number, and the root is at most 2 ^ 64. Assumes nothing.
 use mathlib.Core.Path.{_≡_, sym, _∙_, subst}
 use mathlib.Core.Bool.{false}
 use Prim.Native.Nat.{ℕ, suc, _+_, _-_, _*_, _^_, _≤_, _<_}
