@@ -11,18 +11,21 @@ impl Script<'_> {
             4 => self.any_limits(),
             5 => self.any_readings(),
             6 => self.edge(),
-            _ => (0..40).for_each(|_| self.hard()),
+            _ => (0..50).for_each(|_| self.hard()),
         }
     }
 
-    /// At a limit, at the overrange product, at a right angle, T below a trigger, and one step beside each.
+    /// At a limit, at the overrange product, at a right angle, T below a trigger, at an end of what may be set or of what an update
+    /// leaves, and one step beside each.
     fn hard(&mut self) {
-        match self.random.below(8) {
+        match self.random.below(10) {
             0 | 1 => self.equal_limit(ACCELERATION),
             2 | 3 => self.equal_limit(MAGNETIC),
             4 => self.dot_zero(),
             5 => self.lower_timeout(),
             6 => self.faint(),
+            7 => self.strange_quaternion(),
+            8 => self.vanish(),
             _ => self.over(),
         }
     }

@@ -55,7 +55,7 @@ impl Differ {
                 self.tally.texts += 1;
             }
         } else {
-            self.tally.changes += 1;
+            self.tally.change(r, number, self.ahrs.as_ref().unwrap_or(&after));
         }
         self.ahrs = Some(after);
     }

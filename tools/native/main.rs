@@ -25,6 +25,8 @@ mod machine;
 mod offset_port;
 #[path = "../oracle/offsets.rs"]
 mod offsets;
+#[path = "../oracle/orientation.rs"]
+mod orientation;
 mod patterns;
 #[path = "../oracle/plain.rs"]
 mod plain;

@@ -2,6 +2,7 @@
 
 use crate::estimator::settings;
 use crate::offsets::{given_settings, has_minus_zero};
+use crate::orientation::{hangs_on_order, is_far, is_zero, steps_beyond};
 use crate::record::Record;
 use crate::state::{ACCELERATION, LIMITS_USED, MAGNETIC, QUATERNION, TIMEOUT};
 use crate::words::MINUS_ZERO;
@@ -33,6 +34,8 @@ tally! {
     refused5 "updates refused 5",
     refused7 "updates refused 7",
     on_zero "updates on a quaternion of zero",
+    to_zero "updates to a quaternion of zero",
+    on_far "updates on an orientation far from length 1",
     in_startup "updates in startup",
     product "updates with a rate at the overrange product",
     beside_product "updates with a rate one step beside it",
@@ -45,6 +48,14 @@ tally! {
     zero_timeout "updates with T = 0",
     most_timeout "updates with T = 2^31 - 1",
     subnormal "updates to a quaternion with a subnormal part",
+    set "orientations set",
+    set5 "orientations refused 5",
+    set9 "orientations refused 9",
+    end "orientations with a squared norm at an end",
+    beside_end "orientations with one a step beside it",
+    order "orientations that another order of the sum decides otherwise",
+    left "quaternions of zero left by an orientation",
+    restarted "quaternions of zero left by a restart",
     readings "readings",
     readings_accepted "readings accepted",
     readings_refused5 "readings refused 5",
@@ -99,15 +110,36 @@ impl Tally {
         self.accepted += u64::from(number == 0);
         self.refused5 += u64::from(number == 5);
         self.refused7 += u64::from(number == 7);
-        self.on_zero += u64::from(before[QUATERNION..QUATERNION + 4].iter().all(|w| f(*w) == 0.0));
+        let [was, is] = [before, after].map(|w| &w[QUATERNION..QUATERNION + 4]);
+        self.on_zero += u64::from(is_zero(was));
         self.in_startup += u64::from(before[22] == 1);
         self.zero_timeout += u64::from(before[TIMEOUT] == 0);
         self.most_timeout += u64::from(before[TIMEOUT] == i32::MAX as u32);
         if number == 0 {
             self.rates(&r[1..4], before);
             self.sensors(before, after);
-            let part = &after[QUATERNION..QUATERNION + 4];
-            self.subnormal += u64::from(part.iter().any(|w| f(*w).is_subnormal()));
+            self.to_zero += u64::from(is_zero(is));
+            self.on_far += u64::from(is_far(was));
+            self.subnormal += u64::from(is.iter().any(|w| f(*w).is_subnormal()));
+        }
+    }
+
+    /// A call that changes the filter otherwise: orientations about the ends of what may be set, and how one of zero is left.
+    pub fn change(&mut self, r: &Record, number: u32, before: &[u32; 37]) {
+        self.changes += 1;
+        let zero = u64::from(number == 0 && is_zero(&before[QUATERNION..QUATERNION + 4]));
+        if r[0] == 0x83 {
+            self.restarted += zero;
+        }
+        if r[0] == 0x85 {
+            self.set += u64::from(number == 0);
+            self.set5 += u64::from(number == 5);
+            self.set9 += u64::from(number == 9);
+            self.left += zero;
+            let beyond = steps_beyond(&r[1..5]);
+            self.end += u64::from(beyond == 0);
+            self.beside_end += u64::from(beyond.abs() == 1);
+            self.order += u64::from(hangs_on_order(&r[1..5]));
         }
     }
 

@@ -3,8 +3,9 @@
 use crate::estimator::settings;
 use crate::machine::Machine;
 use crate::offsets::{given, given_settings, has_minus_zero};
+use crate::orientation::{hangs_on_order, is_far, is_zero, steps_beyond};
 use crate::record::{QUIET, Record, call};
-use crate::state::{self, ACCELERATION, LIMITS_USED, MAGNETIC, TIMEOUT};
+use crate::state::{self, ACCELERATION, LIMITS_USED, MAGNETIC, QUATERNION, TIMEOUT};
 use crate::words::MINUS_ZERO;
 use fusion_ahrs::Vector;
 use std::collections::BTreeMap;
@@ -29,6 +30,9 @@ impl Cover {
         self.count(&format!("{} {number}", call(code).unwrap().1), true);
         self.zeros(r, number);
         self.records(r, number);
+        if let Some(before) = &before {
+            self.orientations(r, number, before);
+        }
         if number != 0 {
             return;
         }
@@ -72,6 +76,30 @@ impl Cover {
         }
         self.count("> minus zero in settings of a record, taken", number == 0 && words.contains(&MINUS_ZERO));
         self.count("> offset restored from a record with settings", number == 0 && code == 0x69);
+    }
+
+    /// Orientations about the ends of what may be set, and a quaternion of zero: how it comes to be and how it is left.
+    fn orientations(&mut self, r: &Record, number: u32, before: &[u32; 37]) {
+        let after = self.machine.ahrs_words();
+        let [was, is] = [before, &after].map(|w| &w[QUATERNION..QUATERNION + 4]);
+        match r[0] & !QUIET {
+            0x83 => self.count("> quaternion of zero left by a restart", is_zero(was)),
+            0x85 => {
+                let steps = steps_beyond(&r[1..5]);
+                self.count("> orientation at an end", steps == 0);
+                self.count("> orientation one step beyond an end", steps == 1);
+                self.count("> orientation one step within an end", steps == -1);
+                self.count("> orientation that another order of the sum decides otherwise", hangs_on_order(&r[1..5]));
+                self.count("> quaternion of zero left by an orientation", number == 0 && is_zero(was));
+            }
+            0x86 => {
+                self.count("> update on an orientation far from length 1", number == 0 && is_far(was));
+                self.count("> update on a quaternion of zero", is_zero(was));
+                self.count("> update to a quaternion of zero", number == 0 && is_zero(is));
+                self.count("> update to a subnormal part", number == 0 && is.iter().any(|w| f32::from_bits(*w).is_subnormal()));
+            }
+            _ => (),
+        }
     }
 
     fn update(&mut self, r: &Record, before: &[u32; 37]) {

@@ -20,7 +20,7 @@ impl Script<'_> {
     }
 
     fn case(&mut self) {
-        match self.random.below(27) {
+        match self.random.below(31) {
             0 => self.equal_limit(ACCELERATION),
             1 => self.equal_limit(MAGNETIC),
             2 | 3 => self.dot_zero(),
@@ -40,6 +40,9 @@ impl Script<'_> {
             17 => self.loose(0x86, 9),
             18 => self.along_gravity(),
             19 => self.faint(),
+            20 | 21 => self.set_and_turned(),
+            22 => self.vanish(),
+            23 => self.heavy(),
             _ => self.row(),
         }
     }
@@ -48,23 +51,6 @@ impl Script<'_> {
     fn loose(&mut self, code: u32, floats: usize) {
         let args: Vec<u32> = (0..floats).map(|_| self.random.loose()).collect();
         self.put(code, &args);
-    }
-
-    /// Quaternions of zero, tiny and huge length among others.
-    fn strange_quaternion(&mut self) {
-        let q = self.random.pick(&[
-            [0, 0, 0, 0],
-            [0x8000_0000, 0, 0x8000_0000, 0],
-            [bits(1.0), 0, 0, 0],
-            [bits(-1.0), 0x8000_0000, 0, 0],
-            [bits(0.5), bits(0.5), bits(-0.5), bits(0.5)],
-            [0, bits(1.0), 0, 0],
-            [1, 1, 1, 1],
-            [bits(1.8446e19), bits(1.0), 0, 0],
-            [bits(3.0e38), bits(3.0e38), bits(3.0e38), bits(3.0e38)],
-            [bits(2e-23), 0, bits(2e-23), 0],
-        ]);
-        self.put(0x85, &q);
     }
 
     fn period(&mut self) {
@@ -99,6 +85,18 @@ impl Script<'_> {
         self.put(0x86, &[0, 0, 0, a[0], a[1], a[2], m[0], m[1], m[2]]);
     }
 
+    /// An acceleration that may overflow where it is turned into the Earth's frame.
+    fn heavy(&mut self) {
+        let r = &mut self.random;
+        let a = [0; 3].map(|_: u32| bits(r.within(3.4e38)));
+        self.put(0x86, &[0, 0, 0, a[0], a[1], a[2], 0, 0, 0]);
+        if self.random.one_in(2) {
+            self.fit_quaternion();
+        }
+        self.put(0x89, &[]);
+        self.put(0x8A, &[]);
+    }
+
     /// Good or bad readings in a row, so that triggers move.
     pub fn row(&mut self) {
         let (n, bad) = (1 + self.random.below(12), self.random.one_in(2));
@@ -118,12 +116,16 @@ impl Script<'_> {
         }
     }
 
-    fn common_update(&mut self) -> [u32; 9] {
+    pub fn common_update(&mut self) -> [u32; 9] {
         [0; 9].map(|_: u32| self.random.common())
     }
 
-    /// An update whose squared residual equals the limit, then with the limit one step below it and above.
+    /// An update whose squared residual equals the limit, then with the limit one step below it and above; now and then on an
+    /// orientation that may be far from length 1.
     pub fn equal_limit(&mut self, sensor: usize) {
+        if self.random.one_in(4) {
+            self.fit_quaternion();
+        }
         let u = self.common_update();
         let mut tried = self.machine.ahrs.clone().unwrap();
         let f = f32::from_bits;
@@ -152,7 +154,10 @@ impl Script<'_> {
     /// Sensors at a right angle to where they should be, exactly: the dot product is 0.
     pub fn dot_zero(&mut self) {
         let r = &mut self.random;
-        let q = r.pick(&[[bits(1.0), 0, 0, 0], [0, bits(1.0), 0, 0], [bits(-1.0), 0, 0, 0], [0, 0, 0, bits(1.0)]]);
+        let along = [[1.0, 0.0, 0.0, 0.0], [0.0, 1.0, 0.0, 0.0], [-1.0, 0.0, 0.0, 0.0], [0.0, 0.0, 0.0, 1.0]];
+        // Of the last of these gravity is zero.
+        let beside = [[2.0, 0.0, 0.0, 0.0], [0.0, 0.0, 0.5, 0.0], [0.5, 0.0, 0.0, 0.5]];
+        let q = if r.one_in(4) { r.pick(&beside) } else { r.pick(&along) }.map(bits);
         let (a, b, c, d) = (r.common(), r.common(), r.common(), r.pick(&[0, 0x8000_0000]));
         self.put(0x85, &q);
         self.put(0x86, &[0, 0, 0, a, b, d, d, c, a]);

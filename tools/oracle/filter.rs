@@ -3,7 +3,7 @@
 use crate::machine::{Answer, Machine, gives, refused};
 use crate::state;
 use crate::words::{all_finite, bits, f, of_q, of_v, q, v};
-use fusion_ahrs::{Ahrs, AhrsSettings, Convention};
+use fusion_ahrs::{Ahrs, AhrsSettings, Convention, Quaternion};
 
 /// The refusal that settings get before anything is derived from them, or 0. The angles are not looked at.
 pub fn unfit(a: &[u32]) -> u32 {
@@ -17,6 +17,15 @@ pub fn unfit(a: &[u32]) -> u32 {
     } else {
         0
     }
+}
+
+/// The squared norm of an orientation that may be set, both ends included.
+pub const ENDS: [f32; 2] = [0.25, 4.0];
+
+/// Whether an orientation may be set, by its squared norm as the Rust sums it.
+pub fn settable(q: Quaternion) -> bool {
+    let [least, most] = ENDS;
+    (least..=most).contains(&q.norm_squared())
 }
 
 impl Machine {
@@ -36,6 +45,7 @@ impl Machine {
             0x83 => next.restart(),
             0x84 => next.skip_startup(),
             0x85 if !all_finite(&a[..4]) => return refused(5),
+            0x85 if !settable(q(a)) => return refused(9),
             0x85 => next.set_quaternion(q(a)),
             0x86 if !all_finite(&a[..9]) => return refused(5),
             0x86 => {

@@ -2,6 +2,7 @@
 //! squared residual, a rate equal to the overrange threshold, a T below the trigger.
 
 use crate::machine::{Answer, Machine};
+use crate::orientation::fit;
 use crate::random::Random;
 use crate::record::{CALLS, QUIET, Record, record};
 use crate::state;
@@ -48,7 +49,7 @@ impl Script<'_> {
 
     /// After an update: leaves what would take up the script.
     fn leave(&mut self, number: u32) {
-        // A quaternion of zero or of huge size refuses every update: leave it after a few.
+        // On a quaternion of zero every update is refused: leave it after a few.
         self.stuck = if number == 7 { self.stuck + 1 } else { 0 };
         if self.stuck == self.patience {
             self.put(0x85, &[bits(1.0), 0, 0, 0]);
@@ -102,12 +103,45 @@ impl Script<'_> {
     fn sample(&mut self) {
         let all = self.left;
         self.records();
+        self.orientations();
+        self.refusals();
         let parts: [(u64, fn(&mut Self)); 5] =
             [(40, Self::edge), (58, Self::math), (68, Self::mounting), (88, Self::bias), (93, Self::fuzz)];
         for (percent, calls) in parts {
             while self.left > all - all * percent / 100 {
                 calls(self);
             }
+        }
+    }
+
+    /// The refusals that random calls seldom get.
+    fn refusals(&mut self) {
+        let [nan, most, hundred] = [f32::NAN, f32::MAX, 100.0].map(f32::to_bits);
+        // The period of a rate as small as 1 step is infinite.
+        for (rate, convention) in [(hundred, 3), (nan, 0), (0, 0), (1, 0)] {
+            for code in [0x80, 0x81] {
+                self.put(code, &[rate, convention, bits(0.5), 0, most, most, 0, 0, 0]);
+            }
+            for code in [0x60, 0x61] {
+                self.put(code, &[rate, bits(3.0), bits(3.0), bits(0.02)]);
+            }
+        }
+        self.put(0x82, &[nan]);
+        self.put(0x82, &[0]);
+        for offset in [nan, bits(-3e38), 0] {
+            self.put(0x64, &[offset; 3]);
+            self.put(0x62, &[if offset == nan { nan } else { bits(3e38) }; 3]);
+        }
+        for (number, part) in [(0, nan), (24, 0)] {
+            self.put(0x50, &[number, part, 0, 0]);
+            self.put(0x51, &[number, 0]);
+            self.put(0x52, &[number]);
+            self.put(0x53, &[number, 6]);
+            self.put(0x55, &[number, 3, 3, part, 0, 0]);
+        }
+        self.put(0x53, &[0, 5]);
+        for (len, name) in [(6, b"+X+Y+Z"), (5, b"+X+Y+Z"), (6, b"+X+Y-Z")] {
+            self.put(0x54, &[&[len as u32], &packed(&name[..len])[..]].concat());
         }
     }
 
@@ -351,6 +385,9 @@ impl Script<'_> {
             return;
         }
         let mut args: Vec<u32> = kinds.iter().map(|_| r.loose()).collect();
+        if code == 0x85 && r.one_in(2) {
+            args = fit(r).to_vec();
+        }
         if !args.is_empty() {
             for _ in 0..r.below(4) {
                 let at = r.below(args.len() as u64) as usize;

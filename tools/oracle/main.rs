@@ -10,6 +10,7 @@ mod geometry;
 mod log;
 mod machine;
 mod offsets;
+mod orientation;
 mod plain;
 mod random;
 mod record;

@@ -71,6 +71,10 @@ impl Script<'_> {
         s[6] = bits(r.pick(&[5.0, 1.0, 0.2]));
         let mut walk = Walk::begin(f64::from(f32::from_bits(s[0])), s[1]);
         self.put(0x80, &s);
+        // Some walks begin at an orientation that is given, be its length 1 or not.
+        if self.random.one_in(4) {
+            self.fit_quaternion();
+        }
         for step in 0..50 + self.random.below(600) {
             walk.step(&mut self.random);
             let args = walk.readings(&mut self.random);
