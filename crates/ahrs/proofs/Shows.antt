@@ -2,17 +2,17 @@
 use mathlib.Core.Path.{_≡_, refl, sym, ap₂, _∙_}
 use mathlib.Core.Bool.{Bool, true, false, cond, _&&_}
 use Rattle.vector.specs.declared.Vector.{Vector}
-use Rattle.vector.specs.Vectors.{finiteVector, mulOf}
+use Rattle.vector.specs.Vectors.{finiteVector}
 use Rattle.vector.proofs.Shows.{mul-shows}
 use Rattle.math.specs.Quaternions.{finiteQuaternion}
 use Rattle.settings.specs.Config.{finiteSettings, finiteConfig, firesOf}
 use Rattle.step.specs.Sensor.{finiteRejection}
 use Rattle.step.specs.Direction.{halfGravityOf, halfWestOf}
-use Rattle.step.specs.Rate.{startupGainOf, rateOf}
+use Rattle.step.specs.Rate.{rateOf}
 use Rattle.step.proofs.Shows.{rate-shows, integrated-shows, heading-shows}
 use Rattle.answer.proofs.Tests.{both, all-three}
 use Rattle.ahrs.specs.declared.Ahrs.{Ahrs}
-use Rattle.ahrs.specs.Filter.{finiteState, softRestartedOf, overrangeOf, halfFeedbackOf, updatedOf}
+use Rattle.ahrs.specs.Filter.{finiteState, softRestartedOf, overrangeOf, halfFeedbackOf, startupOf, feedbackOf, displacementOf, updatedOf}
 use Rattle.ahrs.specs.Inner.{finiteDropped}
 use Rattle.ahrs.proofs.Finite.{whole, parts}
 
@@ -35,12 +35,12 @@ module _ (s : Ahrs) (g a m : Vector) where
   unfolding updatedOf overrangeOf halfFeedbackOf
   updated-shows d h =
       let now = overrangeOf s g in
-      let startup = startupGainOf (now .config) (now .startup) (now .«startup_gain») (now .«overrange_recovery») in
-      let feedback = halfFeedbackOf now a m (startup .startup) in
+      let startup = startupOf s g in
+      let feedback = feedbackOf s g a m in
       let rate = rateOf g (feedback .«half_feedback») (startup .gain) in
       let p = parts (updatedOf s g a m) h in
       let (settings, config, quaternion) = kept s (firesOf (s .config) g) in
-      let (q, moved) = integrated-shows (now .quaternion) (mulOf rate (now .config .«sample_period»)) (p .quaternion) in
+      let (q, moved) = integrated-shows (now .quaternion) (displacementOf s g a m) (p .quaternion) in
       let measured = rate-shows g (feedback .«half_feedback») (startup .gain) (mul-shows rate (now .config .«sample_period») moved .0) in
       let gravity = halfGravityOf (now .settings .convention) (now .quaternion) in
       let west = halfWestOf (now .settings .convention) (now .quaternion) in

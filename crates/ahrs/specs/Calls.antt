@@ -2,9 +2,9 @@
 use mathlib.Core.Path.{_≡_}
 use mathlib.Core.Bool.{Bool, true, not, _&&_}
 use mathlib.Core.List.{List, [], _∷_, _++_}
-use lib.Ieee.{Float, binary32, ofBits, lt, le}
+use lib.Ieee.{Float, lt, le}
 use lib.Ieee.Scale.{finite}
-use Rattle.number.specs.Float32.{zero}
+use Rattle.number.specs.Float32.{zero, quarter, four}
 use Rattle.answer.specs.declared.Answer.{Answer}
 use Rattle.answer.specs.declared.Answer.the-variants.{Oriented}
 use Rattle.answer.specs.Refusals.{Check, check}
@@ -87,16 +87,9 @@ periodChecks s period =
 abbrev pub SetsSamplePeriod : Ahrs → Float → Change → Type 0
 SetsSamplePeriod s period r = Changed (periodChecks s period) (withSamplePeriod s period) s (r .state) (r .number)
 
--- 0.25 and 4
-abbrev pub leastNormSquared : Float
-leastNormSquared = ofBits binary32 0x3e80_0000
-
-abbrev pub mostNormSquared : Float
-mostNormSquared = ofBits binary32 0x4080_0000
-
 -- 02 P6: the squared norm, in the Rust's order, is from 0.25 to 4, ends included
 unfoldable pub settable : Quaternion → Bool
-settable q = le leastNormSquared (normSquaredOf q) && le (normSquaredOf q) mostNormSquared
+settable q = le quarter (normSquaredOf q) && le (normSquaredOf q) four
 
 abbrev pub quaternionChecks : Ahrs → Quaternion → List Check
 quaternionChecks s q =

@@ -11,6 +11,7 @@ use Rattle.math.specs.Quaternions as quaternion
 use Rattle.settings.specs.declared.Settings.{Settings}
 use Rattle.settings.specs.declared.config.Config.{Config}
 use Rattle.step.specs.declared.Rejection.{Rejection}
+use Rattle.step.specs.declared.rate.Startup.{Startup}
 use Rattle.settings.specs.Config.{initialGain, finiteSettings, finiteConfig, firesOf}
 use Rattle.step.specs.Sensor.{resetOf, halfInclinationFeedbackOf, halfHeadingFeedbackOf, finiteRejection}
 use Rattle.step.specs.Direction.{halfGravityOf, halfWestOf}
@@ -131,16 +132,32 @@ halfFeedbackOf s accelerometer magnetometer startup =
       «half_feedback» = addOf (inclination .«half_feedback») (heading .«half_feedback»);
     }
 
+-- after overrange: what startup leaves, and the gain in use
+abbrev pub startupOf : Ahrs → Vector → Startup
+startupOf s gyroscope =
+    let now = overrangeOf s gyroscope in
+    startupGainOf (now .config) (now .startup) (now .«startup_gain») (now .«overrange_recovery»)
+
+-- the feedback there
+abbrev pub feedbackOf : Ahrs → Vector → Vector → Vector → HalfFeedback
+feedbackOf s gyroscope accelerometer magnetometer =
+    halfFeedbackOf (overrangeOf s gyroscope) accelerometer magnetometer (startupOf s gyroscope .startup)
+
+-- what the orientation is turned by: the rate of turning, times the period
+abbrev pub displacementOf : Ahrs → Vector → Vector → Vector → Vector
+displacementOf s gyroscope accelerometer magnetometer =
+    mulOf (rateOf gyroscope (feedbackOf s gyroscope accelerometer magnetometer .«half_feedback») (startupOf s gyroscope .gain))
+    (overrangeOf s gyroscope .config .«sample_period»)
+
 unfoldable pub updatedOf : Ahrs → Vector → Vector → Vector → Ahrs
 updatedOf s gyroscope accelerometer magnetometer =
     let now = overrangeOf s gyroscope in
-    let startup = startupGainOf (now .config) (now .startup) (now .«startup_gain») (now .«overrange_recovery») in
-    let feedback = halfFeedbackOf now accelerometer magnetometer (startup .startup) in
-    let rate = rateOf gyroscope (feedback .«half_feedback») (startup .gain) in
+    let startup = startupOf s gyroscope in
+    let feedback = feedbackOf s gyroscope accelerometer magnetometer in
     record {
       settings = now .settings;
       config = now .config;
-      quaternion = integratedOf (now .quaternion) (mulOf rate (now .config .«sample_period»));
+      quaternion = integratedOf (now .quaternion) (displacementOf s gyroscope accelerometer magnetometer);
       accelerometer = accelerometer;
       startup = startup .startup;
       «startup_gain» = startup .«startup_gain»;

@@ -10,7 +10,7 @@ use lib.Ieee.Bits.{is-true}
 use lib.Ieee.Fits.{and-i}
 use lib.Ieee.Order.{le-of-values}
 use lib.Ieee.Scale.{finite}
-use Rattle.number.specs.Float32.{_⊗_, _⊘_, one}
+use Rattle.number.specs.Float32.{_⊗_, _⊘_, one, quarter, four}
 use Rattle.number.proofs.Finite.{mul-finite}
 use Rattle.number.proofs.Units.{Units, in-units, times, mul-units, mul-bounded, times-near}
 use Rattle.math.specs.declared.quaternion.Quaternion.{Quaternion}
@@ -22,12 +22,6 @@ use Rattle.math.proofs.Norm.{Sized, InUnits, Range, range, range-bounde
 use Rattle.math.proofs.Reciprocal.{OverNorm, over-norm}
 
 -- ---- the statement
-
-abbrev pub quarter : Float
-quarter = ofBits binary32 0x3e80_0000
-
-abbrev pub four : Float
-four = ofBits binary32 0x4080_0000
 
 abbrev pub within : Quaternion → Bool
 within q = le quarter (normSquaredOf q) && le (normSquaredOf q) four

@@ -11,7 +11,7 @@ use lib.Dec.{eqb}
 use lib.Ieee.{Float, nan, inf, fin, binary32, up, down, div, below, level, eq, le, ofBits}
 use lib.Ieee.Fits.{down-pos}
 use lib.Ieee.Scale.{finite}
-use Rattle.number.specs.Float32.{_⊗_, _⊘_, one, infinity}
+use Rattle.number.specs.Float32.{_⊗_, _⊘_, one, quarter, infinity}
 use Rattle.number.proofs.Signed.{over}
 use Rattle.number.proofs.Zeros.{Zero, mul-zero-right}
 use Rattle.number.proofs.Finite.{mul-finite}
@@ -21,7 +21,7 @@ use Rattle.math.specs.declared.quaternion.Quaternion.{Quaternion}
 use Rattle.math.specs.Quaternions.{finiteQuaternion, eqOf, normSquaredOf, normOf, normalizeOf}
 use Rattle.math.proofs.Shows.{components}
 use Rattle.math.proofs.Zeros.{Zeros, zeros, zeros-of-eq, eq-of-zeros, square-zero}
-use Rattle.math.proofs.Length.{quarter, within, Fits, length-kept}
+use Rattle.math.proofs.Length.{within, Fits, length-kept}
 
 -- ---- zeros are not within
 

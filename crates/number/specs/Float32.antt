@@ -24,5 +24,11 @@ one = ofBits binary32 0x3f80_0000
 abbrev pub two : Float
 two = ofBits binary32 0x4000_0000
 
+abbrev pub four : Float
+four = ofBits binary32 0x4080_0000
+
+abbrev pub quarter : Float
+quarter = ofBits binary32 0x3e80_0000
+
 abbrev pub infinity : Float
 infinity = ofBits binary32 0x7f80_0000

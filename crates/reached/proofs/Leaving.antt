@@ -6,15 +6,15 @@ use Rattle.answer.specs.Refusals.{refusalOf}
 use Rattle.answer.specs.Runs.{changedBy}
 use Rattle.answer.proofs.Answering.{fails, passes, all-pass}
 use Rattle.vector.specs.declared.Vector.{Vector}
-use Rattle.vector.specs.Vectors.{finiteVector, mulOf}
+use Rattle.vector.specs.Vectors.{finiteVector}
 use Rattle.math.specs.declared.quaternion.Quaternion.{Quaternion}
 use Rattle.math.specs.Quaternions.{finiteQuaternion}
 use Rattle.math.proofs.Zeros.{Zeros, zeros-of-eq, no-turn}
 use Rattle.settings.specs.Config.{knownConvention}
-use Rattle.step.specs.Rate.{startupGainOf, rateOf, integratedOf}
+use Rattle.step.specs.Rate.{integratedOf}
 use Rattle.step.proofs.Shows.{integrated-shows}
 use Rattle.ahrs.specs.declared.Ahrs.{Ahrs}
-use Rattle.ahrs.specs.Filter.{finiteState, restartedOf, withQuaternion, overrangeOf, halfFeedbackOf, updatedOf}
+use Rattle.ahrs.specs.Filter.{finiteState, restartedOf, withQuaternion, overrangeOf, displacementOf, updatedOf}
 use Rattle.ahrs.specs.Calls.{updateChecks, stateChecks, settable, quaternionChecks}
 use Rattle.ahrs.proofs.Finite.{parts}
 use Rattle.reached.specs.Reached.{Sound}
@@ -27,12 +27,10 @@ module _ (s : Ahrs) (z : Zeros (s .quaternion)) (g a m : Vector) where
   no-update : finiteState (updatedOf s g a m) ≡ true → ⊥
   unfolding updatedOf integratedOf
   no-update h =
-      let now = overrangeOf s g in
-      let startup = startupGainOf (now .config) (now .startup) (now .«startup_gain») (now .«overrange_recovery») in
-      let feedback = halfFeedbackOf now a m (startup .startup) in
-      let by = mulOf (rateOf g (feedback .«half_feedback») (startup .gain)) (now .config .«sample_period») in
+      let q = overrangeOf s g .quaternion in
+      let by = displacementOf s g a m in
       let turned = parts (updatedOf s g a m) h .quaternion in
-      no-turn (now .quaternion) by (after-overrange (λ (n : Ahrs). Zeros (n .quaternion)) s g z z) (integrated-shows (now .quaternion) by turned .1) turned
+      no-turn q by (after-overrange (λ (n : Ahrs). Zeros (n .quaternion)) s g z z) (integrated-shows q by turned .1) turned
 
   not-finite : finiteState (updatedOf s g a m) ≡ false
   not-finite = go (finiteState (updatedOf s g a m)) refl

@@ -8,14 +8,14 @@ use Rattle.number.specs.Float32.{zero, infinity}
 use Rattle.answer.specs.Refusals.{refusalOf, accepted}
 use Rattle.answer.specs.Runs.{number, stepOf, runOf, Throughout}
 use Rattle.vector.specs.declared.Vector.{Vector}
-use Rattle.vector.specs.Vectors.{finiteVector, mulOf}
+use Rattle.vector.specs.Vectors.{finiteVector}
 use Rattle.math.specs.declared.quaternion.Quaternion.{Quaternion}
-use Rattle.math.specs.Quaternions.{quaternion, finiteQuaternion, eqOf, vectorProductOf, normSquaredOf, addOf, normalizeOf}
+use Rattle.math.specs.Quaternions.{quaternion, finiteQuaternion, eqOf, normSquaredOf, normalizeOf}
 use Rattle.settings.specs.declared.Settings.{Settings}
 use Rattle.settings.specs.Config.{derivedOf}
-use Rattle.step.specs.Rate.{startupGainOf, rateOf}
+use Rattle.step.specs.Rate.{turnedBy}
 use Rattle.ahrs.specs.declared.Ahrs.{Ahrs}
-use Rattle.ahrs.specs.Filter.{freshOf, restartedOf, withQuaternion, overrangeOf, halfFeedbackOf, updatedOf}
+use Rattle.ahrs.specs.Filter.{freshOf, restartedOf, withQuaternion, overrangeOf, displacementOf, updatedOf}
 use Rattle.ahrs.specs.Calls.{updateChecks, stateChecks, settable, quaternionChecks}
 use Rattle.reached.specs.Runs.{Call, update, restart, skip-startup, set-settings, set-sample-period, set-quaternion, outlineOf}
 use Rattle.reached.specs.Reached.{Sound}
@@ -26,12 +26,7 @@ allZero q = eqOf q (quaternion zero zero zero zero)
 
 -- the orientation that an update has turned, and not yet normalized
 unfoldable pub turnedOf : Ahrs → Vector → Vector → Vector → Quaternion
-turnedOf s gyroscope accelerometer magnetometer =
-    let now = overrangeOf s gyroscope in
-    let startup = startupGainOf (now .config) (now .startup) (now .«startup_gain») (now .«overrange_recovery») in
-    let feedback = halfFeedbackOf now accelerometer magnetometer (startup .startup) in
-    let rate = rateOf gyroscope (feedback .«half_feedback») (startup .gain) in
-    addOf (now .quaternion) (vectorProductOf (now .quaternion) (mulOf rate (now .config .«sample_period»)))
+turnedOf s g a m = turnedBy (overrangeOf s g .quaternion) (displacementOf s g a m)
 
 abbrev pub Normalized : Type 0
 Normalized = (s : Ahrs) (g a m : Vector) → updatedOf s g a m .quaternion ≡ normalizeOf (turnedOf s g a m)

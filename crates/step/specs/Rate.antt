@@ -31,5 +31,9 @@ startupGainOf c on startupGain recovery =
 unfoldable pub rateOf : Vector → Vector → Float → Vector
 rateOf gyroscope feedback gain = addOf (mulOf gyroscope (degToRad ⊗ half)) (mulOf feedback gain)
 
+-- turned, and not yet normalized
+abbrev pub turnedBy : Quaternion → Vector → Quaternion
+turnedBy q displacement = quaternion.addOf q (vectorProductOf q displacement)
+
 unfoldable pub integratedOf : Quaternion → Vector → Quaternion
-integratedOf q displacement = quaternion.normalizeOf (quaternion.addOf q (vectorProductOf q displacement))
+integratedOf q displacement = quaternion.normalizeOf (turnedBy q displacement)
