@@ -8,6 +8,6 @@ mod Sound  -- what each call makes of a sound state; on Finite, Counting
 pub mod Running  -- every state is sound; on Accepting, Sound
 pub mod Lowering  -- a trigger goes above T only where T is lowered; on Counting
 pub mod Leaving  -- from an orientation of zero: no update, but a restart or a quaternion set
-mod Turned  -- what an accepted update makes of the orientation
+pub mod Turned  -- what an accepted update makes of the orientation
 pub mod Orienting  -- when the orientation is zero, and what it is otherwise; on Turned, Leaving
 mod Bench  -- the smallest rate that overflows

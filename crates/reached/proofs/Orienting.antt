@@ -60,14 +60,18 @@ zero-exactly = record { fresh = λ t. fresh-not-zero t (derivedOf t); step = aft
 
 -- ---- a run without an overflow
 
-neither : (n : ℕ) (b d : Bool) → b ≡ false → d ≡ false → accepted n b d ≡ false
+neither : (n : ℕ) (b d : Bool) → accepted n b false ≡ false → d ≡ false → accepted n b d ≡ false
 neither zero b d p q = p
 neither (suc n) b d p q = q
 
+never : (n : ℕ) → accepted n false false ≡ false
+never zero = refl
+never (suc n) = refl
+
 calm-after : (s : Ahrs) → allZero (s .quaternion) ≡ false → (c : Call) → overflowing s c ≡ false → zeroAfter s c ≡ false
 calm-after s h (update g a m) e = neither (refusalOf (updateChecks s g a m)) _ _ e h
-calm-after s h restart e = neither (refusalOf (stateChecks s)) _ _ e h
-calm-after s h (set-quaternion q) e = neither (refusalOf (quaternionChecks s q)) _ _ e h
+calm-after s h restart e = neither (refusalOf (stateChecks s)) _ _ (never (refusalOf (stateChecks s))) h
+calm-after s h (set-quaternion q) e = neither (refusalOf (quaternionChecks s q)) _ _ (never (refusalOf (quaternionChecks s q))) h
 calm-after s h skip-startup e = h
 calm-after s h (set-settings t) e = h
 calm-after s h (set-sample-period p) e = h

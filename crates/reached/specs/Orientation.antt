@@ -51,9 +51,9 @@ pub record ZeroExactly : Type 0 where
   pub fresh : (t : Settings) → allZero (freshOf t (derivedOf t) .quaternion) ≡ false
   pub step : (s : Ahrs) (c : Call) → allZero (stepOf outlineOf s c .state .quaternion) ≡ zeroAfter s c
 
--- whether a call is an update that overflows
+-- whether a call is an update that is accepted and overflows
 abbrev pub overflowing : Ahrs → Call → Bool
-overflowing s (update g a m) = overflows s g a m
+overflowing s (update g a m) = accepted (refusalOf (updateChecks s g a m)) (overflows s g a m) false
 overflowing s restart = false
 overflowing s skip-startup = false
 overflowing s (set-settings t) = false
