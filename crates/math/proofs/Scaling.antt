@@ -51,23 +51,18 @@ twice x y = elim (decLe x y) [
     apart : (x k y : ℕ) → x + k ≡ y → 2 * (x * y) ≤ x * x + y * y
     apart x k y e = subst (λ (z : ℕ). 2 * (x * z) ≤ x * x + z * z) e (wider x k)
 
+-- of two numbers that are near each other, either way
+square : (u x y : ℕ) → 255 * x ≤ 257 * y + 128 * u → 16 * (x * x) ≤ 17 * (y * y) + 150 * (u * u)
+square u x y h =
+    let m = mul-le-mul h h in
+    let t = twice y (16 * u) in
+    omega arith
+
 over : (u v a : ℕ) → Near v u a → 16 * (a * u * (a * u)) ≤ 17 * (v * v) + 150 * (u * u)
-over u v a h = go (a * u) (h .over)
-  where
-    go : (x : ℕ) → 256 * x ≤ 257 * v + 128 * u → 16 * (x * x) ≤ 17 * (v * v) + 150 * (u * u)
-    go x h =
-        let m = mul-le-mul h h in
-        let t = twice v (16 * u) in
-        omega arith
+over u v a h = square u (a * u) v (omega (arith, h .over))
 
 under : (u v a : ℕ) → Near v u a → 16 * (v * v) ≤ 17 * (a * u * (a * u)) + 150 * (u * u)
-under u v a h = go (a * u) (h .under)
-  where
-    go : (x : ℕ) → 255 * v ≤ 256 * x + 128 * u → 16 * (v * v) ≤ 17 * (x * x) + 150 * (u * u)
-    go x h =
-        let m = mul-le-mul h h in
-        let t = twice x (16 * u) in
-        omega arith
+under u v a h = square u v (a * u) (omega (arith, h .under))
 
 -- ---- the four products, rounded, and their squares, rounded
 
