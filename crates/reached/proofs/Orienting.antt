@@ -1,12 +1,12 @@
 -- When the orientation is zero, and what it is otherwise: `ZeroExactly`, `NeverZero` and `SetAgain` hold. Assumes nothing.
 use Prim.Native.Nat.{ℕ, zero, suc}
-use mathlib.Core.Path.{_≡_, refl, ap, _∙_}
+use mathlib.Core.Path.{_≡_, refl, _∙_}
 use mathlib.Core.Bool.{Bool, true, false, _||_, or-true, true≢false}
 use mathlib.Core.List.{List, [], _∷_}
 use lib.Ieee.{ofBits, eq, lt, le, add, mul, sum, round, units, odd}
 use Rattle.answer.specs.Refusals.{refusalOf, accepted}
 use Rattle.answer.specs.Runs.{stepOf, runOf, Throughout}
-use Rattle.answer.proofs.Running.{settled, kept}
+use Rattle.answer.proofs.Running.{settled, read-settled, untouched, kept}
 use Rattle.vector.specs.declared.Vector.{Vector}
 use Rattle.math.specs.declared.quaternion.Quaternion.{Quaternion}
 use Rattle.math.specs.Quaternions.{normSquaredOf}
@@ -34,26 +34,19 @@ fresh-not-zero : (t : Settings) (c : Config) → allZero (freshOf t c .quaternio
 unfolding freshOf eq ofBits
 fresh-not-zero t c = refl
 
--- what is refused is as it was
-by-number
-    : (n : ℕ) (new old : Ahrs) (b : Bool) → (n ≡ 0 → allZero (new .quaternion) ≡ b)
-    → allZero (accepted n new old .quaternion) ≡ accepted n b (allZero (old .quaternion))
-by-number zero new old b h = h refl
-by-number (suc n) new old b h = refl
-
--- and so is the orientation under a change of something else
-left : (n : ℕ) (new old : Ahrs) → new .quaternion ≡ old .quaternion → accepted n new old .quaternion ≡ old .quaternion
-left zero new old e = e
-left (suc n) new old e = refl
+abbrev is-zero : Ahrs → Bool
+is-zero s = allZero (s .quaternion)
 
 after-call : (s : Ahrs) (c : Call) → allZero (stepOf outlineOf s c .state .quaternion) ≡ zeroAfter s c
 unfolding skippedStartup withSettings withSamplePeriod withQuaternion
-after-call s (update g a m) = by-number (refusalOf (updateChecks s g a m)) _ s _ (λ e. updated-zero s g a m (update-accepted s g a m e))
-after-call s restart = by-number (refusalOf (stateChecks s)) _ s _ (λ e. fresh-not-zero (s .settings) (s .config))
-after-call s (set-quaternion q) = by-number (refusalOf (quaternionChecks s q)) _ s _ (λ e. settable-not-zero q (quaternion-accepted s q e .1))
-after-call s skip-startup = ap allZero (left (refusalOf (stateChecks s)) (skippedStartup s) s refl)
-after-call s (set-settings t) = ap allZero (left (refusalOf (changeChecks s t)) (withSettings s t (derivedOf t)) s refl)
-after-call s (set-sample-period p) = ap allZero (left (refusalOf (periodChecks s p)) (withSamplePeriod s p) s refl)
+after-call s (update g a m) =
+    read-settled is-zero (refusalOf (updateChecks s g a m)) (updatedOf s g a m) s _ (λ e. updated-zero s g a m (update-accepted s g a m e))
+after-call s restart = read-settled is-zero (refusalOf (stateChecks s)) (restartedOf s) s _ (λ e. fresh-not-zero (s .settings) (s .config))
+after-call s (set-quaternion q) =
+    read-settled is-zero (refusalOf (quaternionChecks s q)) (withQuaternion s q) s _ (λ e. settable-not-zero q (quaternion-accepted s q e .1))
+after-call s skip-startup = untouched is-zero (refusalOf (stateChecks s)) (skippedStartup s) s refl
+after-call s (set-settings t) = untouched is-zero (refusalOf (changeChecks s t)) (withSettings s t (derivedOf t)) s refl
+after-call s (set-sample-period p) = untouched is-zero (refusalOf (periodChecks s p)) (withSamplePeriod s p) s refl
 
 pub zero-exactly : ZeroExactly
 zero-exactly = record { fresh = λ t. fresh-not-zero t (derivedOf t); step = after-call }
