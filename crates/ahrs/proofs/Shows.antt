@@ -5,7 +5,9 @@ use Rattle.vector.specs.declared.Vector.{Vector}
 use Rattle.vector.specs.Vectors.{finiteVector}
 use Rattle.vector.proofs.Shows.{mul-shows}
 use Rattle.math.specs.Quaternions.{finiteQuaternion}
-use Rattle.settings.specs.Config.{finiteSettings, finiteConfig, firesOf}
+use Rattle.settings.specs.declared.axes.Axes.{Axes}
+use Rattle.settings.specs.Config.{finiteSettings, finiteConfig}
+use Rattle.settings.specs.Axes.{anyOf, overOf}
 use Rattle.step.specs.Sensor.{finiteRejection}
 use Rattle.step.specs.Direction.{halfGravityOf, halfWestOf}
 use Rattle.step.specs.Rate.{rateOf}
@@ -26,9 +28,9 @@ Kept s n =
     (finiteSettings (n .settings) ≡ finiteSettings (s .settings)) × (finiteConfig (n .config) ≡ finiteConfig (s .config))
     × (finiteQuaternion (n .quaternion) ≡ finiteQuaternion (s .quaternion))
 
-kept : (s : Ahrs) (b : Bool) → Kept s (cond b (softRestartedOf s) s)
-kept s true = (refl, refl, refl)
-kept s false = (refl, refl, refl)
+kept : (s : Ahrs) (over : Axes) (b : Bool) → Kept s (cond b (softRestartedOf s over) s)
+kept s over true = (refl, refl, refl)
+kept s over false = (refl, refl, refl)
 
 module _ (s : Ahrs) (g a m : Vector) where
   pub updated-shows : finiteDropped s ≡ true → finiteState (updatedOf s g a m) ≡ true → given s g a m ≡ true
@@ -39,7 +41,7 @@ module _ (s : Ahrs) (g a m : Vector) where
       let feedback = feedbackOf s g a m in
       let rate = rateOf g (feedback .«half_feedback») (startup .gain) in
       let p = parts (updatedOf s g a m) h in
-      let (settings, config, quaternion) = kept s (firesOf (s .config) g) in
+      let (settings, config, quaternion) = kept s (overOf (s .config) g) (anyOf (overOf (s .config) g)) in
       let (q, moved) = integrated-shows (now .quaternion) (displacementOf s g a m) (p .quaternion) in
       let measured = rate-shows g (feedback .«half_feedback») (startup .gain) (mul-shows rate (now .config .«sample_period») moved .0) in
       let gravity = halfGravityOf (now .settings .convention) (now .quaternion) in

@@ -1,5 +1,5 @@
 -- Wrong answers that the promises refuse, two at least for each public call, each by evaluation. Assumes nothing.
-use Prim.Native.Nat.{ℕ}
+use Prim.Native.Nat.{ℕ, _+_}
 use native.Mathlib.Omega.{arith}
 use mathlib.Core.Path.{_≡_, ap, refl}
 use mathlib.Core.Bool.{Bool, true, false, cond}
@@ -8,7 +8,9 @@ use lib.Signed.{mag}
 use lib.Count.{leadingZeros}
 use lib.Ieee.{Float, nan, fin, binary32, ofBits, toBits, eq, ne, lt, le, add, sub, mul, div, neg, sum, round, units, odd}
 use Rattle.number.proofs.Apart.{apart, bits, half, nought, one, two, unlike}
+use Rattle.number.specs.Same.{fabsfOf}
 use Rattle.root.specs.Root.{floorRoot, nearestRootOf, significandOf, exponentOf, squaredOf, rootBitsOf, sqrtOf}
+use Rattle.answer.specs.declared.Answer.{Answer}
 use Rattle.answer.specs.declared.Answer.the-variants.{Oriented, Refused}
 use Rattle.answer.specs.Refusals.{refusalOf}
 use Rattle.vector.specs.declared.Vector.{Vector}
@@ -17,6 +19,7 @@ use Rattle.math.specs.declared.quaternion.Quaternion.{Quaternion}
 use Rattle.math.specs.Quaternions.{quaternion, finiteQuaternion, normSquaredOf, normOf, normalizeOf}
 use Rattle.settings.specs.declared.Settings.{Settings}
 use Rattle.settings.specs.declared.config.Config.{Config}
+use Rattle.settings.specs.declared.axes.Axes.{Axes}
 use Rattle.step.specs.declared.Rejection.{Rejection}
 use Rattle.ahrs.specs.declared.Ahrs.{Ahrs}
 use Rattle.ahrs.specs.declared.change.Started as started
@@ -25,7 +28,8 @@ use Rattle.ahrs.specs.declared.read.QuaternionRead as turned
 use Rattle.ahrs.specs.declared.read.VectorRead as vectors
 use Rattle.ahrs.specs.declared.read.FlagsRead as flags
 use Rattle.ahrs.specs.declared.read.StatesRead as states
-use Rattle.settings.specs.Config.{finiteSettings, finiteConfig, limitOf, derivedOf, firesOf}
+use Rattle.settings.specs.Config.{finiteSettings, finiteConfig, limitOf, derivedOf}
+use Rattle.settings.specs.Axes.{axes, none, overOf}
 use Rattle.step.specs.Sensor.{resetOf, skippedOf, halfInclinationFeedbackOf, halfHeadingFeedbackOf, finiteRejection}
 use Rattle.step.specs.Direction.{halfGravityOf, halfWestOf}
 use Rattle.step.specs.Rate.{startupGainOf, rateOf, integratedOf}
@@ -51,14 +55,14 @@ at-rate r n =
       «rejection_timeout» = one;
     }
 
--- T = 3 and a period of one
-abbrev three : Config
-three =
+-- T = 3 and a period of one, with overrange on above one or off
+abbrev three : Bool → Config
+three on =
     record {
       «sample_period» = one;
       gain = one;
       «startup_gain_rate» = one;
-      «overrange_enabled» = false;
+      «overrange_enabled» = on;
       «overrange_threshold» = one;
       «acceleration_rejection» = one;
       «magnetic_rejection» = one;
@@ -69,20 +73,23 @@ three =
 abbrev waiting : Rejection
 waiting = record { «half_residual» = still; «recovery_trigger» = pos 2; «recovery_threshold» = pos 3; ignored = true }
 
--- a state in startup, by its convention and its orientation
-abbrev oriented : ℕ → Quaternion → Ahrs
-oriented n q =
+-- a state in startup, by its convention, its orientation, whether overrange is on and what went over
+abbrev state : ℕ → Quaternion → Bool → Axes → Ahrs
+state n q on over =
     record {
       settings = at-rate one n;
-      config = three;
+      config = three on;
       quaternion = q;
       accelerometer = still;
       startup = true;
       «startup_gain» = one;
-      «overrange_recovery» = false;
+      «overrange_recovery» = over;
       acceleration = waiting;
       magnetic = waiting;
     }
+
+abbrev oriented : ℕ → Quaternion → Ahrs
+oriented n q = state n q false none
 
 abbrev at-start : ℕ → Ahrs
 at-start n = oriented n (quaternion one nought nought nought)
@@ -106,7 +113,7 @@ pub of-update
     × (Updates (at-start 3) still still still (record { state = updatedOf (at-start 3) still still still; answer = Refused 4 }) → ⊥)
     × (Updates (at-start 0) still still (vector nan nought nought) (record { state = at-start 0; answer = Refused 7 }) → ⊥)
 unfolding refusalOf finiteState finiteSettings finiteConfig finiteQuaternion finiteVector finiteRejection
-    updatedOf overrangeOf firesOf startupGainOf lt add sub neg sum round units odd
+    updatedOf overrangeOf overOf startupGainOf lt add sub neg sum round units odd
 of-update = (λ h. unlike 0 4 refl (h .answer .number), λ h. unlike 0 1 refl (ap started-up (h .state)), λ h. unlike 7 5 refl (h .answer .number))
 
 -- half a turn about x
@@ -120,13 +127,48 @@ pub of-accepted-update
     × (Updates over still still still (record { state = over; answer = Oriented one nought nought nought }) → ⊥)
     × (Updates over still still still (record { state = over; answer = Oriented nought one nought nought }) → ⊥)
 unfolding refusalOf finiteState finiteSettings finiteConfig finiteQuaternion finiteVector finiteRejection
-    updatedOf overrangeOf firesOf startupGainOf halfFeedbackOf halfGravityOf halfWestOf halfInclinationFeedbackOf halfHeadingFeedbackOf skippedOf
+    updatedOf overrangeOf overOf startupGainOf halfFeedbackOf halfGravityOf halfWestOf halfInclinationFeedbackOf halfHeadingFeedbackOf skippedOf
     rateOf integratedOf normalizeOf normOf normSquaredOf sqrtOf rootBitsOf squaredOf exponentOf significandOf nearestRootOf floorRoot leadingZeros
     eq lt add sub mul div neg sum round units odd ofBits toBits
 of-accepted-update = (
   λ h. unlike 5 0 refl (h .answer .number),
   λ h. let e = h .answer .values in let z : _≡_ {A = ℕ} 0 1 = cc in omega arith,
   λ h. unlike 1 0 refl (ap started-up (h .state)),
+)
+
+-- x went over before
+abbrev knocked : Ahrs
+knocked = state 0 (quaternion one nought nought nought) true (axes true false false)
+
+-- a state's set as a number: 1 for x, 2 for y, 4 for z, added up
+abbrev axes-in : Ahrs → ℕ
+axes-in s = let over = s .«overrange_recovery» in cond (over .x) 1 0 + cond (over .y) 2 0 + cond (over .z) 4 0
+
+-- z goes over now: whatever is answered, any set but z alone, be it joined with x, x kept or none
+pub of-knock
+    : (n : Ahrs) (r : Answer) → (axes-in n ≡ 4 → ⊥) → Updates knocked (vector nought nought two) still still (record { state = n; answer = r }) → ⊥
+unfolding refusalOf finiteState finiteSettings finiteConfig finiteQuaternion finiteVector finiteRejection
+    updatedOf overrangeOf overOf startupGainOf halfFeedbackOf halfGravityOf halfWestOf halfInclinationFeedbackOf halfHeadingFeedbackOf resetOf skippedOf
+    rateOf integratedOf normalizeOf normOf normSquaredOf sqrtOf rootBitsOf squaredOf exponentOf significandOf nearestRootOf floorRoot leadingZeros
+    fabsfOf eq lt add sub mul div neg sum round units odd ofBits toBits
+of-knock n r other h = other (ap axes-in (h .state))
+
+-- any set left by a restart or by startup skipped; any but the one before by settings, a period or a quaternion
+pub of-knocked
+    : ((n : Ahrs) → (axes-in n ≡ 0 → ⊥) → Restarts knocked (record { state = n; number = 0 }) → ⊥)
+    × ((n : Ahrs) → (axes-in n ≡ 0 → ⊥) → SkipsStartup knocked (record { state = n; number = 0 }) → ⊥)
+    × ((n : Ahrs) → (axes-in n ≡ 1 → ⊥) → SetsSettings knocked (at-rate one 0) (record { state = n; number = 0 }) → ⊥)
+    × ((n : Ahrs) → (axes-in n ≡ 1 → ⊥) → SetsSamplePeriod knocked two (record { state = n; number = 0 }) → ⊥)
+    × ((n : Ahrs) → (axes-in n ≡ 1 → ⊥) → SetsQuaternion knocked (quaternion nought one nought nought) (record { state = n; number = 0 }) → ⊥)
+unfolding refusalOf finiteState finiteSettings finiteConfig finiteQuaternion finiteVector finiteRejection freshOf resetOf skippedStartup
+    derivedOf limitOf withSettings withThreshold withSamplePeriod withQuaternion settable normSquaredOf
+    eq ne lt le add sub mul div neg sum round units odd ofBits
+of-knocked = (
+  λ n other h. other (ap axes-in (h .holds)),
+  λ n other h. other (ap axes-in (h .holds)),
+  λ n other h. other (ap axes-in (h .holds)),
+  λ n other h. other (ap axes-in (h .holds)),
+  λ n other h. other (ap axes-in (h .holds)),
 )
 
 -- a restart that keeps the triggers; one of a state that is refused
@@ -270,13 +312,27 @@ abbrev in-startup : flags.FlagsRead → ℕ
 in-startup (flags.the-variants.Read f) = cond (f .startup) 1 0
 in-startup (flags.the-variants.Refused n) = n
 
-abbrev flagged : Bool → flags.FlagsRead
-flagged b = flags.the-variants.Read (record { startup = b; «overrange_recovery» = false; «acceleration_recovery» = false; «magnetic_recovery» = false })
+abbrev has-x : flags.FlagsRead → ℕ
+has-x (flags.the-variants.Read f) = cond (f .«overrange_recovery» .x) 1 0
+has-x (flags.the-variants.Refused n) = n
 
--- a startup that is hidden; the flags of a state that is refused
-pub of-flags : (FlagsReads (at-start 0) (flagged false) → ⊥) × (FlagsReads (at-start 3) (flagged true) → ⊥)
+abbrev flagged : Bool → Axes → flags.FlagsRead
+flagged b over =
+    flags.the-variants.Read (record { startup = b; «overrange_recovery» = over; «acceleration_recovery» = false; «magnetic_recovery» = false })
+
+-- a startup that is hidden; the flags of a state that is refused; an axis that is hidden, or another shown in its place
+pub of-flags
+    : (FlagsReads (at-start 0) (flagged false none) → ⊥)
+    × (FlagsReads (at-start 3) (flagged true none) → ⊥)
+    × (FlagsReads knocked (flagged true none) → ⊥)
+    × (FlagsReads knocked (flagged true (axes false false true)) → ⊥)
 unfolding refusalOf finiteState finiteSettings finiteConfig finiteQuaternion finiteVector finiteRejection flagsOf
-of-flags = (λ h. unlike 0 1 refl (ap in-startup (h .exact)), λ h. unlike 0 4 refl (h .number))
+of-flags = (
+  λ h. unlike 0 1 refl (ap in-startup (h .exact)),
+  λ h. unlike 0 4 refl (h .number),
+  λ h. unlike 0 1 refl (ap has-x (h .exact)),
+  λ h. unlike 0 1 refl (ap has-x (h .exact)),
+)
 
 abbrev is-ignored : states.StatesRead → ℕ
 is-ignored (states.the-variants.Read i) = cond (i .«accelerometer_ignored») 1 0

@@ -10,9 +10,11 @@ use Rattle.vector.specs.Vectors.{zeroVector, finiteVector, addOf, mulOf}
 use Rattle.math.specs.Quaternions as quaternion
 use Rattle.settings.specs.declared.Settings.{Settings}
 use Rattle.settings.specs.declared.config.Config.{Config}
+use Rattle.settings.specs.declared.axes.Axes.{Axes}
 use Rattle.step.specs.declared.Rejection.{Rejection}
 use Rattle.step.specs.declared.rate.Startup.{Startup}
-use Rattle.settings.specs.Config.{initialGain, finiteSettings, finiteConfig, firesOf}
+use Rattle.settings.specs.Config.{initialGain, finiteSettings, finiteConfig}
+use Rattle.settings.specs.Axes.{none, anyOf, overOf}
 use Rattle.step.specs.Sensor.{resetOf, halfInclinationFeedbackOf, halfHeadingFeedbackOf, finiteRejection}
 use Rattle.step.specs.Direction.{halfGravityOf, halfWestOf}
 use Rattle.step.specs.Rate.{startupGainOf, rateOf, integratedOf}
@@ -38,7 +40,7 @@ freshOf s c =
       accelerometer = zeroVector;
       startup = true;
       «startup_gain» = initialGain;
-      «overrange_recovery» = false;
+      «overrange_recovery» = none;
       acceleration = resetOf (c .«rejection_timeout»);
       magnetic = resetOf (c .«rejection_timeout»);
     }
@@ -48,8 +50,8 @@ restartedOf s = freshOf (s .settings) (s .config)
 
 -- ---- a state with one of its parts changed, and the rest as it was
 
-abbrev ahrs : Settings → Config → Quaternion → Vector → Bool → Float → Bool → Rejection → Rejection → Ahrs
-ahrs t c q a startup gain recovery acceleration magnetic =
+abbrev ahrs : Settings → Config → Quaternion → Vector → Bool → Float → Axes → Rejection → Rejection → Ahrs
+ahrs t c q a startup gain over acceleration magnetic =
     record {
       settings = t;
       config = c;
@@ -57,7 +59,7 @@ ahrs t c q a startup gain recovery acceleration magnetic =
       accelerometer = a;
       startup = startup;
       «startup_gain» = gain;
-      «overrange_recovery» = recovery;
+      «overrange_recovery» = over;
       acceleration = acceleration;
       magnetic = magnetic;
     }
@@ -65,8 +67,8 @@ ahrs t c q a startup gain recovery acceleration magnetic =
 abbrev given : Ahrs → Settings → Config → Ahrs
 given s t c = ahrs t c (s .quaternion) (s .accelerometer) (s .startup) (s .«startup_gain») (s .«overrange_recovery») (s .acceleration) (s .magnetic)
 
-abbrev starting : Ahrs → Bool → Float → Bool → Ahrs
-starting s on gain recovery = ahrs (s .settings) (s .config) (s .quaternion) (s .accelerometer) on gain recovery (s .acceleration) (s .magnetic)
+abbrev starting : Ahrs → Bool → Float → Axes → Ahrs
+starting s on gain over = ahrs (s .settings) (s .config) (s .quaternion) (s .accelerometer) on gain over (s .acceleration) (s .magnetic)
 
 abbrev rejecting : Ahrs → Rejection → Rejection → Ahrs
 rejecting s a m = ahrs (s .settings) (s .config) (s .quaternion) (s .accelerometer) (s .startup) (s .«startup_gain») (s .«overrange_recovery») a m
@@ -106,16 +108,19 @@ unfoldable pub withSamplePeriod : Ahrs → Float → Ahrs
 withSamplePeriod s period = given s (s .settings) (withPeriod (s .config) period)
 
 unfoldable pub skippedStartup : Ahrs → Ahrs
-skippedStartup s = starting s false (s .«startup_gain») false
+skippedStartup s = starting s false (s .«startup_gain») none
 
 -- ---- overrange
 
--- it restarts all but quaternion and accelerometer, and raises its flag
-abbrev pub softRestartedOf : Ahrs → Ahrs
-softRestartedOf s = rejecting (starting s true initialGain true) (resetOf (s .config .«rejection_timeout»)) (resetOf (s .config .«rejection_timeout»))
+-- it restarts all but quaternion and accelerometer, and keeps which axes went over, in place of any before
+abbrev pub softRestartedOf : Ahrs → Axes → Ahrs
+softRestartedOf s over =
+    rejecting (starting s true initialGain over) (resetOf (s .config .«rejection_timeout»)) (resetOf (s .config .«rejection_timeout»))
 
 unfoldable pub overrangeOf : Ahrs → Vector → Ahrs
-overrangeOf s g = cond (firesOf (s .config) g) (softRestartedOf s) s
+overrangeOf s g =
+    let over = overOf (s .config) g in
+    cond (anyOf over) (softRestartedOf s over) s
 
 -- ---- one update, before any refusal
 

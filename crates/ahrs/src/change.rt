@@ -1,6 +1,7 @@
 // A start, a restart, and the calls that set something.
 use super::Ahrs;
 use math::Quaternion;
+use settings::Axes;
 use settings::Config;
 use settings::Settings;
 use settings::config::INITIAL_STARTUP_GAIN;
@@ -61,7 +62,7 @@ impl Ahrs {
             accelerometer,
             startup: true,
             startup_gain: INITIAL_STARTUP_GAIN,
-            overrange_recovery: false,
+            overrange_recovery: Axes::NONE,
             acceleration: rejection,
             magnetic: rejection,
         }
@@ -104,9 +105,10 @@ impl Ahrs {
                 number,
             };
         }
+        let none = Axes::NONE;
         let mut state = self;
         state.startup = false;
-        state.overrange_recovery = false;
+        state.overrange_recovery = none;
         Change { state, number: 0 }
     }
 

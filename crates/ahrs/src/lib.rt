@@ -15,6 +15,7 @@ pub mod update; // update.rt: one update
 pub use change::Change;
 pub use change::Started;
 pub use lent::update_lent;
+pub use settings::Axes;
 pub use settings::Config;
 pub use settings::Settings;
 pub use step::Rejection;
@@ -26,7 +27,7 @@ pub struct Ahrs {
     pub accelerometer: Vector,
     pub startup: bool,
     pub startup_gain: f32,
-    pub overrange_recovery: bool,
+    pub overrange_recovery: Axes,
     pub acceleration: Rejection,
     pub magnetic: Rejection,
 }

@@ -1,6 +1,7 @@
 // Calls that only read the state: what they read, or a refusal's number.
 use super::Ahrs;
 use math::Quaternion;
+use settings::Axes;
 use settings::Settings;
 use step::direction::calculate_half_gravity;
 use vector::Vector;
@@ -24,9 +25,10 @@ pub enum VectorRead {
     Refused(u8),
 }
 
+// Overrange recovery shows the axes that went over last. It is on where they are not none.
 pub struct Flags {
     pub startup: bool,
-    pub overrange_recovery: bool,
+    pub overrange_recovery: Axes,
     pub acceleration_recovery: bool,
     pub magnetic_recovery: bool,
 }
@@ -176,13 +178,14 @@ impl Ahrs {
         if number != 0 {
             return FlagsRead::Refused(number);
         }
+        let overrange_recovery = self.overrange_recovery;
         let acceleration = self.acceleration;
         let magnetic = self.magnetic;
         let acceleration_recovery = acceleration.counts().recovery();
         let magnetic_recovery = magnetic.counts().recovery();
         FlagsRead::Read(Flags {
             startup: self.startup,
-            overrange_recovery: self.overrange_recovery,
+            overrange_recovery,
             acceleration_recovery,
             magnetic_recovery,
         })

@@ -23,19 +23,20 @@ pub struct HalfFeedback {
 }
 
 impl Ahrs {
-    // An overrange restarts all but quaternion and accelerometer, and raises its flag.
+    // An overrange restarts all but quaternion and accelerometer, and keeps which axes went over.
     fn overrange(self, gyroscope: Vector) -> Ahrs
         ensures { λ r. ⌜ r ≡ overrangeOf self gyroscope ⌝ }
     {
         let config = self.config;
-        if !config.overrange(gyroscope) {
+        let axes = config.overrange(gyroscope);
+        if !axes.any() {
             return self;
         }
         let fresh = Rejection::reset(config.rejection_timeout);
         let mut next = self;
         next.startup = true;
         next.startup_gain = INITIAL_STARTUP_GAIN;
-        next.overrange_recovery = true;
+        next.overrange_recovery = axes;
         next.acceleration = fresh;
         next.magnetic = fresh;
         next
@@ -90,12 +91,9 @@ impl Ahrs {
         let settings = now.settings;
         let config = now.config;
         let q = now.quaternion;
-        let startup = startup_gain(
-            config,
-            now.startup,
-            now.startup_gain,
-            now.overrange_recovery,
-        );
+        let axes = now.overrange_recovery;
+        let startup = startup_gain(config, now.startup, now.startup_gain, axes);
+        let overrange_recovery = startup.overrange_recovery;
         let feedback = now.half_feedback(accelerometer, magnetometer, startup.startup);
         let acceleration = feedback.acceleration;
         let magnetic = feedback.magnetic;
@@ -109,7 +107,7 @@ impl Ahrs {
             accelerometer,
             startup: startup.startup,
             startup_gain: startup.startup_gain,
-            overrange_recovery: startup.overrange_recovery,
+            overrange_recovery,
             acceleration,
             magnetic,
         }

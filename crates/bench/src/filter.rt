@@ -1,5 +1,6 @@
 // The bench table's rows of the filter that are run, each a short story told by calls of the filter.
 use ahrs::Ahrs;
+use ahrs::Axes;
 use ahrs::Change;
 use ahrs::Settings;
 use ahrs::Started;
@@ -47,7 +48,7 @@ fn still(state: Ahrs, x: f32, z: f32) -> Ahrs {
 }
 
 // The state after some such updates.
-fn after(state: Ahrs, x: f32, z: f32, updates: u32) -> Ahrs {
+pub(crate) fn after(state: Ahrs, x: f32, z: f32, updates: u32) -> Ahrs {
     let mut now = state;
     let mut n = 0;
     while n < updates {
@@ -103,17 +104,21 @@ pub(crate) fn judged(x: f32, z: f32, limit: f32) -> Verdict {
     }
 }
 
-// Whether a rate of x degrees a second is over the range of 2,000.
-pub(crate) fn is_over_range(fresh: Ahrs, x: f32) -> bool {
-    let reading = fresh.update(
-        Vector::new(x, 0.0, 0.0),
+// An update of an upright pole that turns at these rates, in degrees a second.
+pub(crate) fn turned(state: Ahrs, x: f32, y: f32, z: f32) -> Ahrs {
+    let reading = state.update(
+        Vector::new(x, y, z),
         Vector::new(0.0, 0.0, 1.0),
         Vector::ZERO,
     );
-    let state = reading.state;
+    reading.state
+}
+
+// The axes that the flags show.
+pub(crate) fn over_range(state: Ahrs) -> Axes {
     match state.flags() {
         FlagsRead::Read(flags) => flags.overrange_recovery,
-        FlagsRead::Refused(_) => false,
+        FlagsRead::Refused(_) => Axes::NONE,
     }
 }
 

@@ -161,18 +161,43 @@ fn print_step() {
     say(b"\n");
 }
 
-fn print_range() {
+fn print_range(name: &[u8], state: Ahrs) {
+    say(name);
+    say(b", over range:");
+    let axes = filter::over_range(state);
+    if axes.x {
+        say(b" x");
+    }
+    if axes.y {
+        say(b" y");
+    }
+    if axes.z {
+        say(b" z");
+    }
+    if !axes.any() {
+        say(b" none");
+    }
+    say(b"\n");
+}
+
+// At 98 % of the range and a step above it; the latest knock takes the place of the one before, and is shown while startup goes on.
+fn print_knocks() {
     let Beginning::At(fresh) = filter::begin(filter::settings(10.0, 0.5, 1.0)) else {
         return;
     };
-    report(
-        b"1960 of 2000 is over range",
-        filter::is_over_range(fresh, 1960.0),
+    print_range(b"1960 of 2000", filter::turned(fresh, 1960.0, 0.0, 0.0));
+    print_range(
+        b"1960.0001 of 2000",
+        filter::turned(fresh, 1960.0001, 0.0, 0.0),
     );
-    report(
-        b"1960.0001 of 2000 is over range",
-        filter::is_over_range(fresh, 1960.0001),
-    );
+    let first = filter::turned(fresh, 1961.0, -1961.0, 1960.0);
+    print_range(b"a knock about x and y", first);
+    let second = filter::turned(first, 0.0, 0.0, -2000.0);
+    print_range(b"then one about z alone", second);
+    print_range(b"28 updates later", filter::after(second, 0.0, 1.0, 28));
+    print_range(b"30 updates later", filter::after(second, 0.0, 1.0, 30));
+    let change = second.skip_startup();
+    print_range(b"or startup skipped", change.state);
 }
 
 fn print_startup() {
@@ -317,7 +342,7 @@ fn main() {
     print_records();
     print_zeros();
     print_step();
-    print_range();
+    print_knocks();
     print_startup();
     print_lowered();
     print_ends();

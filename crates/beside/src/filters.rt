@@ -1,4 +1,4 @@
-// The calls of the filter: 80 to 8E.
+// The calls of the filter: 80 to 8F.
 use super::record::choice_at;
 use super::record::float_at;
 use super::record::quaternion_at;
@@ -95,13 +95,31 @@ fn vector_of(read: VectorRead) -> Said {
 
 fn flags_of(read: FlagsRead) -> Said {
     match read {
-        FlagsRead::Read(flags) => said::words(
-            Words::none()
-                .flag(flags.startup)
-                .flag(flags.overrange_recovery)
-                .flag(flags.acceleration_recovery)
-                .flag(flags.magnetic_recovery),
-        ),
+        FlagsRead::Read(flags) => {
+            let axes = flags.overrange_recovery;
+            said::words(
+                Words::none()
+                    .flag(flags.startup)
+                    .flag(axes.any())
+                    .flag(flags.acceleration_recovery)
+                    .flag(flags.magnetic_recovery),
+            )
+        }
+        FlagsRead::Refused(number) => said::number(number),
+    }
+}
+
+fn part(within: bool, bit: u32) -> u32 {
+    if within { bit } else { 0 }
+}
+
+// One word: 1 for x, 2 for y and 4 for z, added up.
+fn axes_of(read: FlagsRead) -> Said {
+    match read {
+        FlagsRead::Read(flags) => {
+            let axes = flags.overrange_recovery;
+            said::words(Words::none().word(part(axes.x, 1) | part(axes.y, 2) | part(axes.z, 4)))
+        }
         FlagsRead::Refused(number) => said::number(number),
     }
 }
@@ -153,6 +171,7 @@ fn said_of(ahrs: Ahrs, call: u32) -> Said {
         0x8C => ratios_of(ahrs.internal_states()),
         0x8D => marks_of(ahrs.internal_states()),
         0x8E => settings_of(ahrs.settings()),
+        0x8F => axes_of(ahrs.flags()),
         _ => said::number(1),
     }
 }

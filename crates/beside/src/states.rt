@@ -42,6 +42,7 @@ pub(crate) fn state_words(ahrs: Ahrs) -> Words {
     let config = ahrs.config;
     let quaternion = ahrs.quaternion;
     let accelerometer = ahrs.accelerometer;
+    let axes = ahrs.overrange_recovery;
     let acceleration = ahrs.acceleration;
     let magnetic = ahrs.magnetic;
     let words = with_config(settings_words(settings), config)
@@ -49,6 +50,6 @@ pub(crate) fn state_words(ahrs: Ahrs) -> Words {
         .vector(accelerometer)
         .flag(ahrs.startup)
         .float(ahrs.startup_gain)
-        .flag(ahrs.overrange_recovery);
+        .flag(axes.any());
     with_rejection(with_rejection(words, acceleration), magnetic)
 }

@@ -8,7 +8,8 @@ use Rattle.vector.specs.declared.Vector.{Vector}
 use Rattle.vector.specs.Vectors.{vector}
 use Rattle.math.specs.Quaternions.{normSquaredOf}
 use Rattle.settings.specs.declared.Settings.{Settings}
-use Rattle.settings.specs.Config.{limitOf, derivedOf, firesOf}
+use Rattle.settings.specs.Config.{limitOf, derivedOf}
+use Rattle.settings.specs.Axes.{overOf}
 use Rattle.step.specs.Sensor.{resetOf, skippedOf, halfInclinationFeedbackOf, halfHeadingFeedbackOf}
 use Rattle.step.specs.Direction.{halfGravityOf, halfWestOf}
 use Rattle.step.specs.Rate.{startupGainOf, rateOf}
@@ -38,6 +39,6 @@ abbrev still : Vector
 still = vector nought nought nought
 
 pub least : (overflows fresh (about-x 0x6633_0ca0) still still ≡ true) × (overflows fresh (about-x 0x6633_0c9f) still still ≡ false)
-unfolding turnedOf freshOf derivedOf limitOf resetOf overrangeOf firesOf startupGainOf halfFeedbackOf halfGravityOf halfWestOf
+unfolding turnedOf freshOf derivedOf limitOf resetOf overrangeOf overOf startupGainOf halfFeedbackOf halfGravityOf halfWestOf
     halfInclinationFeedbackOf halfHeadingFeedbackOf skippedOf rateOf normSquaredOf eq ne lt add sub mul div neg sum round units odd ofBits
 least = (refl, refl)

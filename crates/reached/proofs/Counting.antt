@@ -9,7 +9,7 @@ use Rattle.step.specs.declared.Rejection.{Rejection}
 use Rattle.step.specs.declared.sensor.Feedback.{Feedback}
 use Rattle.ahrs.specs.declared.Ahrs.{Ahrs}
 use Rattle.step.specs.Sensor.{residualOf, skippedOf, rejectedOf, halfInclinationFeedbackOf, halfHeadingFeedbackOf}
-use Rattle.settings.specs.Config.{firesOf}
+use Rattle.settings.specs.Axes.{anyOf, overOf}
 use Rattle.ahrs.specs.Filter.{softRestartedOf, overrangeOf, halfFeedbackOf, updatedOf}
 
 module _
@@ -42,11 +42,12 @@ module _
         picked _ r _ (isZeroOf m) h (rejected r (residualOf (normalizeOf (crossOf gravity m)) west) startup (c .«magnetic_rejection»))
 
 -- an overrange keeps what holds of a state and of one that is softly restarted
-pub after-overrange : (Q : Ahrs → Type 0) (s : Ahrs) (g : Vector) → Q s → Q (softRestartedOf s) → Q (overrangeOf s g)
+pub after-overrange
+    : (Q : Ahrs → Type 0) (s : Ahrs) (g : Vector) → Q s → Q (softRestartedOf s (overOf (s .config) g)) → Q (overrangeOf s g)
 unfolding overrangeOf
-after-overrange Q s g h k = go (firesOf (s .config) g)
+after-overrange Q s g h k = go (anyOf (overOf (s .config) g))
   where
-    go : (b : Bool) → Q (cond b (softRestartedOf s) s)
+    go : (b : Bool) → Q (cond b (softRestartedOf s (overOf (s .config) g)) s)
     go true = k
     go false = h
 

@@ -1,19 +1,21 @@
 -- Wrong values that the promises refuse, two at least for each function, each by evaluation. Assumes nothing.
-use Prim.Native.Nat.{ℕ}
+use Prim.Native.Nat.{ℕ, _+_}
 use native.Mathlib.Omega.{arith}
 use mathlib.Core.Path.{_≡_, refl, ap}
-use mathlib.Core.Bool.{Bool, true, false, true≢false, false≢true}
+use mathlib.Core.Bool.{Bool, true, false, cond, true≢false, false≢true}
 use lib.IntN.{ℤ, pos, negsuc}
 use lib.Signed.{mag}
 use lib.Ieee.{Float, nan, inf, fin, ofBits, toBits, toSigned, eq, lt, ne, add, sub, mul, div, neg, sum, round, units, odd}
 use Rattle.number.specs.Same.{fabsfOf}
 use Rattle.number.proofs.Apart.{apart, bits, nought, minus-nought, one, two}
 use Rattle.answer.specs.Refusals.{refusalOf}
-use Rattle.vector.specs.Vectors.{vector, exceedsOf}
+use Rattle.vector.specs.Vectors.{vector}
 use Rattle.settings.specs.declared.Settings.{Settings}
 use Rattle.settings.specs.declared.config.Config.{Config}
+use Rattle.settings.specs.declared.axes.Axes.{Axes}
 use Rattle.settings.specs.Config.{overrangeFactor, largest, knownConvention, finiteSettings, soundSettings, limitOf, derivedOf, finiteConfig}
-use Rattle.settings.specs.Config.{settingsChecks, firesOf}
+use Rattle.settings.specs.Config.{settingsChecks}
+use Rattle.settings.specs.Axes.{axes, none, anyOf, overOf}
 
 -- a convention, a rate, a gain and a timeout, the rest ones
 abbrev with : ℕ → Float → Float → Float → Settings
@@ -83,15 +85,31 @@ of-refusal = (λ h. omega arith, λ h. omega arith, λ h. omega arith)
 abbrev ready : Config
 ready = config one true one (pos 3)
 
+abbrev minus-two : Float
+minus-two = fin true 1 (pos 1)
+
 -- a NaN taken; a finite one refused
 pub of-config-is-finite : (true ≡ finiteConfig (config nan true one (pos 3)) → ⊥) × (false ≡ finiteConfig ready → ⊥)
 unfolding finiteConfig
 of-config-is-finite = (true≢false, false≢true)
 
--- at exactly the product; none above it; where it is off
+-- ---- axes
+
+-- none for some; one for none
+pub of-any : (true ≡ anyOf none → ⊥) × (false ≡ anyOf (axes false false true) → ⊥)
+of-any = (true≢false, false≢true)
+
+-- a set as a number: 1 for x, 2 for y, 4 for z, added up
+abbrev number : Axes → ℕ
+number a = cond (a .x) 1 0 + cond (a .y) 2 0 + cond (a .z) 4 0
+
+-- two axes swapped; one left out, a reading below 0; all named for one; one at exactly the product; one where overrange is off
 pub of-overrange
-    : (true ≡ firesOf ready (vector nought one nought) → ⊥)
-    × (false ≡ firesOf ready (vector nought nought two) → ⊥)
-    × (true ≡ firesOf (config one false one (pos 3)) (vector nought nought two) → ⊥)
-unfolding firesOf exceedsOf fabsfOf lt
-of-overrange = (true≢false, false≢true, true≢false)
+    : (axes true false false ≡ overOf ready (vector nought two nought) → ⊥)
+    × (axes true false false ≡ overOf ready (vector two nought minus-two) → ⊥)
+    × (axes true true true ≡ overOf ready (vector nought nought two) → ⊥)
+    × (axes false true true ≡ overOf ready (vector nought one two) → ⊥)
+    × (axes false false true ≡ overOf (config one false one (pos 3)) (vector nought nought two) → ⊥)
+unfolding overOf fabsfOf lt
+of-overrange =
+    (λ h. apart number h refl, λ h. apart number h refl, λ h. apart number h refl, λ h. apart number h refl, λ h. apart number h refl)

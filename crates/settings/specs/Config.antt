@@ -6,8 +6,6 @@ use lib.Ieee.{Float, binary32, ofBits, lt, ne, toSigned}
 use lib.Ieee.Scale.{finite}
 use Rattle.number.specs.Float32.{_⊖_, _⊗_, _⊘_, zero, one}
 use Rattle.answer.specs.Refusals.{Check, check, Exactly}
-use Rattle.vector.specs.declared.Vector.{Vector}
-use Rattle.vector.specs.Vectors.{exceedsOf}
 use Rattle.settings.specs.declared.Settings.{Settings}
 use Rattle.settings.specs.declared.config.Config.{Config}
 
@@ -75,7 +73,3 @@ settingsChecks s =
 -- each number is given exactly when its row says
 abbrev pub ExactlyWhen : Type 0
 ExactlyWhen = (s : Settings) → Exactly (settingsChecks s)
-
--- overrange is on when the range is above 0, and fires when some axis is larger in size than 0.98 × range
-unfoldable pub firesOf : Config → Vector → Bool
-firesOf c g = c .«overrange_enabled» && exceedsOf g (c .«overrange_threshold»)

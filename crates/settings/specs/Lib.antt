@@ -1,1 +1,2 @@
 pub mod Config
+pub mod Axes

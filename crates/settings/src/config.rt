@@ -1,9 +1,11 @@
 // What is derived from the settings, and which settings are sound.
+use super::Axes;
 use super::Settings;
 use vector::Vector;
 ghost use mathlib.Core.Path.{_≡_};
 ghost use Rattle.answer.specs.Refusals.{refusalOf};
-ghost use Rattle.settings.specs.Config.{knownConvention, finiteSettings, soundSettings, limitOf, derivedOf, finiteConfig, settingsChecks, firesOf};
+ghost use Rattle.settings.specs.Config.{knownConvention, finiteSettings, soundSettings, limitOf, derivedOf, finiteConfig, settingsChecks};
+ghost use Rattle.settings.specs.Axes.{overOf};
 
 // What is derived from the settings.
 pub struct Config {
@@ -114,10 +116,16 @@ impl Config {
             & number::is_finite(self.magnetic_rejection)
     }
 
-    // Whether the gyroscope is over its range.
-    pub fn overrange(self, gyroscope: Vector) -> bool
-        ensures { λ r. ⌜ r ≡ firesOf self gyroscope ⌝ }
+    // The axes on which the gyroscope is over its range.
+    pub fn overrange(self, gyroscope: Vector) -> Axes
+        ensures { λ r. ⌜ r ≡ overOf self gyroscope ⌝ }
     {
-        self.overrange_enabled & gyroscope.exceeds(self.overrange_threshold)
+        let on = self.overrange_enabled;
+        let threshold = self.overrange_threshold;
+        Axes {
+            x: on & number::is_larger(gyroscope.x, threshold),
+            y: on & number::is_larger(gyroscope.y, threshold),
+            z: on & number::is_larger(gyroscope.z, threshold),
+        }
     }
 }

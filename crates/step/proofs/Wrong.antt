@@ -4,7 +4,7 @@ use mathlib.Core.Path.{_≡_, refl, ap}
 use mathlib.Core.Bool.{Bool, true, false, cond, true≢false, false≢true}
 use lib.IntN.{pos}
 use lib.Signed.{mag}
-use lib.Ieee.{nan, inf, fin, ofBits, toBits, eq, le, lt, add, sub, mul, neg, sum, round, units, odd}
+use lib.Ieee.{Float, nan, inf, fin, ofBits, toBits, eq, le, lt, add, sub, mul, neg, sum, round, units, odd}
 use Rattle.number.specs.Whole.{saturatedOf, clampOf}
 use Rattle.number.proofs.Apart.{apart, bits, nought, minus-nought, one, minus-one, two, half}
 use Rattle.vector.specs.declared.Vector.{Vector}
@@ -15,6 +15,8 @@ use Rattle.rejection.specs.declared.Counts.{Counts}
 use Rattle.rejection.specs.Counts.{counted, movedOf, updatedOf}
 use Rattle.step.specs.declared.Rejection.{Rejection}
 use Rattle.settings.specs.declared.config.Config.{Config}
+use Rattle.settings.specs.declared.axes.Axes.{Axes}
+use Rattle.settings.specs.Axes.{axes, none}
 use Rattle.step.specs.declared.rate.Startup.{Startup}
 use Rattle.step.specs.declared.sensor.Feedback.{Feedback}
 use Rattle.step.specs.Sensor.{countsOf, residualOf, resetOf, skippedOf, rejectedOf, halfInclinationFeedbackOf, halfHeadingFeedbackOf}
@@ -67,12 +69,31 @@ of-calculate-half-west = (λ h. apart in-y h refl, λ h. apart in-y h refl)
 abbrev goes-on : Startup → ℕ
 goes-on r = cond (r .startup) 1 0
 
+abbrev three : Float
+three = fin false 3 (pos 0)
+
+abbrev four : Float
+four = fin false 1 (pos 2)
+
 -- startup that goes on where the gain has fallen to the settings' own; the gain used before it falls
 pub of-startup-gain
-    : (startup true one false one ≡ startupGainOf ready true two false → ⊥)
-    × (startup true (fin false 3 (pos 0)) false (fin false 1 (pos 2)) ≡ startupGainOf ready true (fin false 1 (pos 2)) false → ⊥)
+    : (startup true one none one ≡ startupGainOf ready true two none → ⊥) × (startup true three none four ≡ startupGainOf ready true four none → ⊥)
 unfolding startupGainOf lt sub add sum round units odd neg toBits
 of-startup-gain = (λ h. apart goes-on h refl, λ h. apart (λ (r : Startup). bits (r .gain)) h refl)
+
+-- y went over, and nothing else
+abbrev about-y : Axes
+about-y = axes false true false
+
+abbrev has-y : Startup → ℕ
+has-y r = cond (r .«overrange_recovery» .y) 1 0
+
+-- the axes kept past startup's end; forgotten before it
+pub of-axes
+    : (startup false one about-y one ≡ startupGainOf ready true two about-y → ⊥)
+    × (startup true three none three ≡ startupGainOf ready true four about-y → ⊥)
+unfolding startupGainOf lt sub add sum round units odd neg toBits
+of-axes = (λ h. apart has-y h refl, λ h. apart has-y h refl)
 
 abbrev still : Vector
 still = vector nought nought nought

@@ -8,6 +8,8 @@ use Rattle.vector.specs.Vectors.{addOf, mulOf}
 use Rattle.math.specs.Quaternions as quaternion
 use Rattle.math.specs.Quaternions.{vectorProductOf}
 use Rattle.settings.specs.declared.config.Config.{Config}
+use Rattle.settings.specs.declared.axes.Axes.{Axes}
+use Rattle.settings.specs.Axes.{none}
 use Rattle.step.specs.declared.rate.Startup.{Startup}
 use Rattle.step.specs.Direction.{half}
 
@@ -15,16 +17,16 @@ use Rattle.step.specs.Direction.{half}
 abbrev pub degToRad : Float
 degToRad = ofBits binary32 0x3c8e_fa35
 
-abbrev pub startup : Bool → Float → Bool → Float → Startup
+abbrev pub startup : Bool → Float → Axes → Float → Startup
 startup on startupGain recovery gain =
     record { startup = on; «startup_gain» = startupGain; «overrange_recovery» = recovery; gain = gain }
 
--- it falls before use; startup ends when it is no longer above the gain
-unfoldable pub startupGainOf : Config → Bool → Float → Bool → Startup
+-- it falls before use; startup ends when it is no longer above the gain, and with it what went over is forgotten
+unfoldable pub startupGainOf : Config → Bool → Float → Axes → Startup
 startupGainOf c on startupGain recovery =
     let fallen = startupGain ⊖ c .«startup_gain_rate» in
     cond on
-    (cond (lt (c .gain) fallen) (startup true fallen recovery fallen) (startup false fallen false (c .gain)))
+    (cond (lt (c .gain) fallen) (startup true fallen recovery fallen) (startup false fallen none (c .gain)))
     (startup false startupGain recovery (c .gain))
 
 -- the gyroscope in half radians, and the feedback times the gain

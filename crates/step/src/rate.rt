@@ -1,6 +1,7 @@
 // The gain in use, the rate of turning, and the turn.
 use super::Config;
 use math::Quaternion;
+use settings::Axes;
 use vector::Vector;
 ghost use mathlib.Core.Path.{_≡_};
 ghost use Rattle.step.specs.Rate.{startupGainOf, rateOf, integratedOf};
@@ -11,7 +12,7 @@ const DEG_TO_RAD: f32 = 0.017453292;
 pub struct Startup {
     pub startup: bool,
     pub startup_gain: f32,
-    pub overrange_recovery: bool,
+    pub overrange_recovery: Axes,
     pub gain: f32,
 }
 
@@ -20,7 +21,7 @@ pub fn startup_gain(
     config: Config,
     startup: bool,
     startup_gain: f32,
-    overrange_recovery: bool,
+    overrange_recovery: Axes,
 ) -> Startup
     ensures { λ r. ⌜ r ≡ startupGainOf config startup «startup_gain» «overrange_recovery» ⌝ }
 {
@@ -45,7 +46,7 @@ pub fn startup_gain(
     Startup {
         startup: false,
         startup_gain: fallen,
-        overrange_recovery: false,
+        overrange_recovery: Axes::NONE,
         gain,
     }
 }

@@ -11,7 +11,7 @@ returns-2 : tie.Need-returns-2
 unfolding flagsOf
 returns-2 c =
     let counts = c .before .before .before in
-    let tested = counts .before .before .before in
+    let tested = counts .before .before .before .before in
     gives flagsSaid Refused (λ n. refl) _ _ refl (tested .before .refusal .ensures) (tested .if1 .left)
     (simp (c .recovery2 .ensures, c .before .counts2 .ensures, c .before .before .recovery .ensures, counts .counts .ensures))
 

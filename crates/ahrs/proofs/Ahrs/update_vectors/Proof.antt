@@ -7,9 +7,10 @@ returns : tie.Need-returns
 unfolding updatedOf
 returns c =
     let feedback = c .before .before .before .before .before .before in
-    let overrange = feedback .before .before .before .before .before in
+    let startup = feedback .before .before in
+    let overrange = startup .before .before .before .before .before in
     simp (c .integrate-quaternion .ensures, c .before .mul .ensures, c .before .before .half-angular-rate .ensures)
-    (simp (feedback .half-feedback .ensures, feedback .before .startup-gain .ensures, overrange .overrange .ensures))
+    (simp (feedback .half-feedback .ensures, startup .startup-gain .ensures, overrange .overrange .ensures))
 
 pub update-vectors-spec : {M : Type 1} → statement M
 update-vectors-spec = tie.close (tie.spec (λ c κs. tt) (λ c κs. tt) (λ c κs. tt) (λ c κs. tt) (λ c κs. tt) (λ c κs. tt) returns)
