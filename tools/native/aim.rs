@@ -16,9 +16,9 @@ impl Script<'_> {
     }
 
     /// At a limit, at the overrange product, at a right angle, T below a trigger, at an end of what may be set or of what an update
-    /// leaves, and one step beside each.
+    /// leaves, and one step beside each; a knock and what follows.
     fn hard(&mut self) {
-        match self.random.below(10) {
+        match self.random.below(11) {
             0 | 1 => self.equal_limit(ACCELERATION),
             2 | 3 => self.equal_limit(MAGNETIC),
             4 => self.dot_zero(),
@@ -26,6 +26,7 @@ impl Script<'_> {
             6 => self.faint(),
             7 => self.strange_quaternion(),
             8 => self.vanish(),
+            9 => self.knock(),
             _ => self.over(),
         }
     }

@@ -7,6 +7,7 @@ use crate::record::{QUIET, Record, to_text};
 use crate::rust;
 use crate::tally::Tally;
 use crate::words::of_v;
+use gateweave::ahrs::Ahrs;
 
 /// The first call that differs ends the run.
 pub fn differs(what: &str, call: &str, theirs: &[u32], ours: &[u32]) -> ! {
@@ -21,6 +22,7 @@ pub struct Differ {
     pub tally: Tally,
     /// The states before the next call.
     ahrs: Option<[u32; 37]>,
+    axes: u32,
     bias: [u32; 10],
 }
 
@@ -40,14 +42,11 @@ impl Differ {
             assert!(machine.ahrs.is_none() && self.port.ahrs.is_none(), "one side alone has started");
             return;
         };
-        let after = machine.ahrs_words();
-        let words = port::of_ahrs(&ours);
-        if after != words {
-            differs("the state after a call", &to_text(r), &after, &words);
-        }
+        let after = same_filter("the state after a call", || to_text(r), machine, &ours);
         if let (0x86, Some(before)) = (r[0], self.ahrs) {
             self.tally.update(r, number, &before, &after);
-            let code = 0x87 + (self.tally.updates % 8) as u32;
+            self.tally.axes(self.axes, machine.axes);
+            let code = 0x87 + (self.tally.updates % 9) as u32;
             same_answer("what is read after it", r, &machine.read(theirs, code), &port::read(ours, code));
             self.tally.reads += 1;
             if self.tally.updates % 5003 == 0 {
@@ -58,6 +57,7 @@ impl Differ {
             self.tally.change(r, number, self.ahrs.as_ref().unwrap_or(&after));
         }
         self.ahrs = Some(after);
+        self.axes = machine.axes;
     }
 
     fn estimator(&mut self, r: &Record, number: u32, machine: &Machine) {
@@ -87,6 +87,16 @@ impl Differ {
         }
         self.bias = after;
     }
+}
+
+/// Holds the whole state of the filter to the port's, with the axes that went over behind it; the words of the state.
+pub fn same_filter(what: &str, call: impl Fn() -> String, machine: &Machine, filter: &Ahrs) -> [u32; 37] {
+    let (theirs, ours) = (machine.ahrs_words(), port::of_ahrs(filter));
+    let [over, named] = [machine.axes, port::of_axes(filter.overrange_recovery)];
+    if theirs != ours || over != named {
+        differs(what, &call(), &[&theirs[..], &[over]].concat(), &[&ours[..], &[named]].concat());
+    }
+    theirs
 }
 
 fn same_answer(what: &str, r: &Record, theirs: &Answer, ours: &Answer) {

@@ -1,9 +1,8 @@
 //! Whole logs, good and damaged, fed in parts that are cut at random: every line, and the state at the end.
 
-use crate::differ::differs;
+use crate::differ::{differs, same_filter};
 use crate::log;
 use crate::machine::Machine;
-use crate::port;
 use crate::random::Random;
 use crate::recording;
 use crate::tally::Tally;
@@ -34,10 +33,8 @@ pub fn run(seed: u64, count: u64) -> Tally {
             differs("a line", &format!("line {line} of the log of seed {from}, up to {MOST} records"), &[], &[]);
         }
         if let Phase::Records(run) = phase {
-            let (theirs, ours) = (machine.ahrs_words(), port::of_ahrs(&run.filter));
-            if theirs != ours {
-                differs("the state at the end", &format!("the log of seed {from}, up to {MOST} records"), &theirs, &ours);
-            }
+            let log = || format!("the log of seed {from}, up to {MOST} records");
+            same_filter("the state at the end", log, &machine, &run.filter);
         }
     }
     tally

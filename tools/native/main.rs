@@ -1,6 +1,8 @@
 //! The exported text beside the Rust, in one process. `native` with no argument says what it can do.
 
 mod aim;
+#[path = "../oracle/axes.rs"]
+mod axes;
 #[path = "../oracle/closed.rs"]
 #[allow(dead_code)]
 mod closed;
@@ -17,6 +19,8 @@ mod filter;
 mod generate;
 #[path = "../oracle/geometry.rs"]
 mod geometry;
+#[path = "../oracle/knock.rs"]
+mod knock;
 #[path = "../oracle/log.rs"]
 mod log;
 mod logs;

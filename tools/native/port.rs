@@ -5,8 +5,8 @@ use crate::offset_port;
 use crate::plain_port::{arithmetic, mountings};
 use crate::record::{QUIET, Record};
 use crate::words::{bits, f};
-use gateweave::ahrs::read::{FlagsRead, QuaternionRead, SettingsRead, StatesRead, VectorRead};
-use gateweave::ahrs::{self, Ahrs, Settings};
+use gateweave::ahrs::read::{Flags, FlagsRead, QuaternionRead, SettingsRead, StatesRead, VectorRead};
+use gateweave::ahrs::{self, Ahrs, Axes, Settings};
 use gateweave::answer::Answer as Said;
 use gateweave::bias::reads::{ActiveRead, OffsetRead, SettingsRead as BiasSettingsRead};
 use gateweave::bias::{self, Bias, BiasSettings};
@@ -75,6 +75,11 @@ fn of_settings(s: &Settings) -> [u32; 7] {
     [rate, s.convention.into(), gain, range, acceleration, magnetic, timeout]
 }
 
+/// A set of axes: 1 for x, 2 for y and 4 for z.
+pub fn of_axes(a: Axes) -> u32 {
+    u32::from(a.x) + 2 * u32::from(a.y) + 4 * u32::from(a.z)
+}
+
 pub fn of_ahrs(t: &Ahrs) -> [u32; 37] {
     let c = &t.config;
     let mut words = [0; 37];
@@ -85,7 +90,7 @@ pub fn of_ahrs(t: &Ahrs) -> [u32; 37] {
     words[14] = c.rejection_timeout as u32;
     words[15..19].copy_from_slice(&of_quaternion(t.quaternion));
     words[19..22].copy_from_slice(&of_vector(t.accelerometer));
-    words[22..25].copy_from_slice(&[t.startup.into(), bits(t.startup_gain), t.overrange_recovery.into()]);
+    words[22..25].copy_from_slice(&[t.startup.into(), bits(t.startup_gain), t.overrange_recovery.any().into()]);
     for (at, sensor) in [(25, &t.acceleration), (31, &t.magnetic)] {
         words[at..at + 3].copy_from_slice(&of_vector(sensor.half_residual));
         words[at + 3] = sensor.recovery_trigger as u32;
@@ -202,6 +207,10 @@ pub fn read(state: Ahrs, code: u32) -> Answer {
         StatesRead::Read(s) => gives(words(s)),
         StatesRead::Refused(n) => numbered(n),
     };
+    let flags = |words: fn(Flags) -> Vec<u32>| match state.flags() {
+        FlagsRead::Read(s) => gives(words(s)),
+        FlagsRead::Refused(n) => numbered(n),
+    };
     match code {
         0x87 => match state.quaternion() {
             QuaternionRead::Read(q) => gives(of_quaternion(q)),
@@ -210,18 +219,16 @@ pub fn read(state: Ahrs, code: u32) -> Answer {
         0x88 => vector(state.gravity()),
         0x89 => vector(state.linear_acceleration()),
         0x8A => vector(state.earth_acceleration()),
-        0x8B => match state.flags() {
-            FlagsRead::Read(s) => {
-                gives([s.startup, s.overrange_recovery, s.acceleration_recovery, s.magnetic_recovery].map(u32::from))
-            }
-            FlagsRead::Refused(n) => numbered(n),
-        },
+        0x8B => flags(|s| {
+            [s.startup, s.overrange_recovery.any(), s.acceleration_recovery, s.magnetic_recovery].map(u32::from).to_vec()
+        }),
         0x8C => states(|s| [s.acceleration_recovery_trigger, s.magnetic_recovery_trigger].map(bits)),
         0x8D => states(|s| [s.accelerometer_ignored, s.magnetometer_ignored].map(u32::from)),
         0x8E => match state.settings() {
             SettingsRead::Read(s) => gives(of_settings(&s)),
             SettingsRead::Refused(n) => numbered(n),
         },
+        0x8F => flags(|s| vec![of_axes(s.overrange_recovery)]),
         _ => refused(1),
     }
 }

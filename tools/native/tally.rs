@@ -1,10 +1,11 @@
 //! What a run reaches: how many calls of each kind, their answers, and the cases that are easily missed.
 
+use crate::axes::over;
 use crate::estimator::settings;
 use crate::offsets::{given_settings, has_minus_zero};
 use crate::orientation::{hangs_on_order, is_far, is_zero, steps_beyond};
 use crate::record::Record;
-use crate::state::{ACCELERATION, LIMITS_USED, MAGNETIC, QUATERNION, TIMEOUT};
+use crate::state::{ACCELERATION, LIMITS_USED, MAGNETIC, OVERRANGE, PRODUCT, QUATERNION, TIMEOUT};
 use crate::words::MINUS_ZERO;
 use fusion_ahrs::Vector;
 
@@ -40,6 +41,9 @@ tally! {
     product "updates with a rate at the overrange product",
     beside_product "updates with a rate one step beside it",
     overrange "updates over range",
+    several "updates over range about more than one axis",
+    replaced "updates that replace the axes of an earlier one by others",
+    ended "updates with which such axes are gone",
     limit "updates with a squared residual at its limit",
     beside_limit "updates with one a step beside it",
     ignored "updates that ignore a sensor",
@@ -144,11 +148,18 @@ impl Tally {
     }
 
     fn rates(&mut self, gyroscope: &[u32], before: &[u32; 37]) {
-        let (enabled, product) = (before[10] == 1, before[11]);
-        let any = |holds: &dyn Fn(u32) -> bool| u64::from(enabled && gyroscope.iter().any(|w| holds(*w)));
-        self.product += any(&|w| steps(w, product) == 0);
-        self.beside_product += any(&|w| steps(w, product) == 1);
-        self.overrange += any(&|w| f(w).abs() > f(product));
+        let beside = |n: u32| u64::from(before[OVERRANGE] == 1 && gyroscope.iter().any(|w| steps(*w, before[PRODUCT]) == n));
+        let axes = over(gyroscope, before).count_ones();
+        self.product += beside(0);
+        self.beside_product += beside(1);
+        self.overrange += u64::from(axes > 0);
+        self.several += u64::from(axes > 1);
+    }
+
+    /// The axes that went over, before an update and after it.
+    pub fn axes(&mut self, was: u32, is: u32) {
+        self.replaced += u64::from(was != 0 && is != 0 && is != was);
+        self.ended += u64::from(was != 0 && is == 0);
     }
 
     fn sensors(&mut self, before: &[u32; 37], after: &[u32; 37]) {

@@ -1,15 +1,19 @@
 //! What a script reaches: a count for each answer of each call, and for each case that is easily missed.
 
+use crate::axes::over;
 use crate::estimator::settings;
 use crate::machine::Machine;
 use crate::offsets::{given, given_settings, has_minus_zero};
 use crate::orientation::{hangs_on_order, is_far, is_zero, steps_beyond};
 use crate::record::{QUIET, Record, call};
-use crate::state::{self, ACCELERATION, LIMITS_USED, MAGNETIC, QUATERNION, TIMEOUT};
-use crate::words::MINUS_ZERO;
+use crate::state::{self, ACCELERATION, LIMITS_USED, MAGNETIC, OVERRANGE, PRODUCT, QUATERNION, TIMEOUT};
+use crate::words::{MINUS_ZERO, f};
 use fusion_ahrs::Vector;
 use std::collections::BTreeMap;
 use std::io::{self, Write};
+
+/// The sets of axes by their words.
+const SETS: [&str; 8] = ["none", "x", "y", "x y", "z", "x z", "y z", "x y z"];
 
 #[derive(Default)]
 pub struct Cover {
@@ -26,12 +30,14 @@ impl Cover {
         let code = r[0] & !QUIET;
         let before = self.machine.ahrs.is_some().then(|| self.machine.ahrs_words());
         let bias = self.machine.bias.map(|b| state::of_bias(&b));
+        let axes = self.machine.axes;
         let number = self.machine.call(r).number;
         self.count(&format!("{} {number}", call(code).unwrap().1), true);
         self.zeros(r, number);
         self.records(r, number);
         if let Some(before) = &before {
             self.orientations(r, number, before);
+            self.axes(r, number, before, axes);
         }
         if number != 0 {
             return;
@@ -102,15 +108,41 @@ impl Cover {
         }
     }
 
+    /// The axes that went over: which are shown, what leaves them, and with what they are gone.
+    fn axes(&mut self, r: &Record, number: u32, before: &[u32; 37], was: u32) {
+        let up = number == 0 && was != 0;
+        match r[0] & !QUIET {
+            0x80 => self.count("> axes gone with a start", up),
+            0x81 => self.count("> axes left by new settings", up),
+            0x82 => self.count("> axes left by a new period", up),
+            0x83 => self.count("> axes gone with a restart", up),
+            0x84 => self.count("> axes gone with a skipped startup", up),
+            0x85 => self.count("> axes left by an orientation", up),
+            0x86 if number == 0 => self.knock(r, before, was),
+            0x86 => self.count("> axes left by a refused update over others", was != 0 && over(&r[1..4], before) & !was != 0),
+            0x8F => self.count(&format!("> axes shown: {}", SETS[was as usize]), true),
+            _ => (),
+        }
+    }
+
+    /// An accepted update, by its rates.
+    fn knock(&mut self, r: &Record, before: &[u32; 37], was: u32) {
+        let (is, over) = (self.machine.axes, over(&r[1..4], before));
+        let (on, product) = (before[OVERRANGE] == 1, f(before[PRODUCT]).abs());
+        let sizes = [r[1], r[2], r[3]].map(|w| f(w).abs());
+        let (at, above) = (sizes.contains(&product), sizes.iter().any(|size| *size > product));
+        self.count("> overrange fired", over != 0);
+        self.count("> overrange at exactly the threshold", on && at);
+        self.count("> axis at the threshold beside one over it", over != 0 && at);
+        self.count("> axis over the threshold with overrange off", !on && above);
+        self.count("> axes replaced by others", is & !was != 0 && was & !is != 0);
+        self.count("> axes gone with the end of startup", was != 0 && is == 0);
+        self.count("> axes over where startup ends at once", over != 0 && is == 0);
+    }
+
     fn update(&mut self, r: &Record, before: &[u32; 37]) {
         let after = self.machine.ahrs_words();
-        let f = f32::from_bits;
         let startup = after[22] == 1;
-        self.count("> overrange fired", before[10] == 1 && r[1..4].iter().any(|w| f(*w).abs() > f(before[11])));
-        self.count(
-            "> overrange at exactly the threshold",
-            before[10] == 1 && r[1..4].iter().any(|w| f(*w).abs() == f(before[11])),
-        );
         self.count("> startup ended", before[22] == 1 && !startup);
         self.count("> in startup", startup);
         self.count("> T = 0", after[TIMEOUT] == 0);

@@ -20,7 +20,7 @@ impl Script<'_> {
     }
 
     fn case(&mut self) {
-        match self.random.below(31) {
+        match self.random.below(32) {
             0 => self.equal_limit(ACCELERATION),
             1 => self.equal_limit(MAGNETIC),
             2 | 3 => self.dot_zero(),
@@ -43,6 +43,7 @@ impl Script<'_> {
             20 | 21 => self.set_and_turned(),
             22 => self.vanish(),
             23 => self.heavy(),
+            24 => self.knock(),
             _ => self.row(),
         }
     }
@@ -163,17 +164,6 @@ impl Script<'_> {
         self.put(0x86, &[0, 0, 0, a, b, d, d, c, a]);
         self.put(0x85, &q);
         self.put(0x86, &[0, 0, 0, d, b, a, c, d, d]);
-    }
-
-    /// A rate at the overrange threshold exactly, and one step to each side.
-    pub fn overrange(&mut self) {
-        let threshold = self.machine.ahrs_words()[11] & 0x7FFF_FFFF;
-        let mut u = self.common_update();
-        let r = &mut self.random;
-        let beside = threshold.saturating_add(r.below(3) as u32).saturating_sub(1).min(0x7F7F_FFFF);
-        u[r.below(3) as usize] = beside | (r.any() & 0x8000_0000);
-        self.put(0x86, &u);
-        self.put(0x8B, &[]);
     }
 
     /// Rates whose products are subnormal, and ones that cancel beside a minus zero, with nothing else to hide them.

@@ -1,5 +1,6 @@
 //! The calls of the filter. The settings hold angles in the Rust and squared limits in the port: a script gives both.
 
+use crate::axes;
 use crate::machine::{Answer, Machine, gives, refused};
 use crate::state;
 use crate::words::{all_finite, bits, f, of_q, of_v, q, v};
@@ -49,13 +50,14 @@ impl Machine {
             0x85 => next.set_quaternion(q(a)),
             0x86 if !all_finite(&a[..9]) => return refused(5),
             0x86 => {
+                let over = axes::over(a, &state::of_ahrs(&next));
                 next.update(v(a), v(&a[3..]), v(&a[6..]));
                 let orientation = of_q(next.quaternion());
-                return self.keep_ahrs(next, orientation);
+                return self.keep_ahrs(code, next, over, orientation);
             }
             _ => panic!("the script has a call {code:02X}"),
         }
-        self.keep_ahrs(next, [])
+        self.keep_ahrs(code, next, 0, [])
     }
 
     pub fn read(&self, ahrs: &Ahrs, code: u32) -> Answer {
@@ -83,6 +85,7 @@ impl Machine {
                 let [w0, w2, w3, w6] = [s.sample_rate, s.gain, s.gyroscope_range, s.rejection_timeout].map(bits);
                 gives([w0, s.convention as u32, w2, w3, self.limits[0], self.limits[1], w6])
             }
+            0x8F => gives([self.axes]),
             _ => panic!("the script has a call {code:02X}"),
         }
     }
@@ -111,18 +114,22 @@ impl Machine {
             next
         };
         state::hold_limits(&mut next, [(acceleration, acceleration_angle), (magnetic, magnetic_angle)]);
-        let answer = self.keep_ahrs(next, []);
+        let answer = self.keep_ahrs(code, next, 0, []);
         if answer.number == 0 {
             self.limits = [acceleration, magnetic];
         }
         answer
     }
 
-    fn keep_ahrs(&mut self, next: Ahrs, answer: impl Into<Vec<u32>>) -> Answer {
+    /// Keeps the state after a call, where nothing refuses it, and the axes that went over: their yes or no has to be the flag.
+    fn keep_ahrs(&mut self, code: u32, next: Ahrs, over: u32, answer: impl Into<Vec<u32>>) -> Answer {
         let answer = answer.into();
         if !state::ahrs_finite(&state::of_ahrs(&next)) || !all_finite(&answer) {
             return refused(7);
         }
+        let flags = next.flags();
+        self.axes = axes::after(code, self.axes, over, flags.startup);
+        assert_eq!(self.axes != 0, flags.overrange_recovery, "the axes that went over after a call {code:02X}");
         self.ahrs = Some(next);
         gives(answer)
     }

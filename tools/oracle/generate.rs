@@ -104,6 +104,7 @@ impl Script<'_> {
         let all = self.left;
         self.records();
         self.orientations();
+        self.knocks();
         self.refusals();
         let parts: [(u64, fn(&mut Self)); 5] =
             [(40, Self::edge), (58, Self::math), (68, Self::mounting), (88, Self::bias), (93, Self::fuzz)];
@@ -366,7 +367,7 @@ impl Script<'_> {
     }
 
     pub fn readings(&mut self) {
-        let code = 0x87 + self.random.below(8) as u32;
+        let code = 0x87 + self.random.below(9) as u32;
         self.put(code, &[]);
     }
 

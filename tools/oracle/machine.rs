@@ -29,11 +29,13 @@ pub enum Side {
     Ahrs,
 }
 
-#[derive(Default)]
+#[derive(Clone, Default)]
 pub struct Machine {
     pub ahrs: Option<Ahrs>,
     /// The two squared limits as given; the Rust keeps the angles.
     pub limits: [u32; 2],
+    /// The axes that went over; the Rust keeps whether some did.
+    pub axes: u32,
     pub bias: Option<Bias>,
 }
 

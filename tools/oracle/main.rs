@@ -1,5 +1,6 @@
 //! Answers call scripts by the Rust crate, and makes them. `oracle` with no argument says what it can do.
 
+mod axes;
 mod cover;
 mod damage;
 mod edge;
@@ -7,6 +8,7 @@ mod estimator;
 mod filter;
 mod generate;
 mod geometry;
+mod knock;
 mod log;
 mod machine;
 mod offsets;

@@ -88,6 +88,7 @@ pub const CALLS: &[(u32, &str, &[Kind])] = &[
     (0x8C, "ahrs.trigger_ratios", &[]),
     (0x8D, "ahrs.ignored", &[]),
     (0x8E, "ahrs.settings", &[]),
+    (0x8F, "ahrs.axes", &[]),
 ];
 
 pub fn call(code: u32) -> Option<&'static (u32, &'static str, &'static [Kind])> {

@@ -2,6 +2,7 @@
 //! damaged in one place.
 
 use crate::generate::{Script, bits};
+use crate::knock::gyroscope;
 use crate::log::{HEADER, MARK, RECORD};
 use crate::machine::{Answer, Machine};
 use crate::random::Random;
@@ -99,23 +100,23 @@ fn readings(r: &mut Random, machine: &mut Machine, settings: &[u32; 9], count: u
 
 /// Whether the filter takes the readings and goes on: after a quaternion of zero, it would refuse whatever follows.
 fn accepted(machine: &mut Machine, nine: &[u32; 9]) -> bool {
-    let before = machine.ahrs.clone();
+    let before = machine.clone();
     let answer = machine.call(&record(0x86, nine));
     let goes_on = answer.number == 0 && answer.words.iter().any(|w| f(*w) != 0.0);
     if !goes_on {
-        machine.ahrs = before;
+        *machine = before;
     }
     goes_on
 }
 
-/// Sensors of zero, a rate about the overrange product, readings of any finite size.
+/// Sensors of zero, rates about the overrange product, readings of any finite size.
 fn strange(r: &mut Random, mut nine: [u32; 9], range: u32) -> [u32; 9] {
     match r.below(6) {
         0 => nine[3..6].fill(r.pick(&[0, 0x8000_0000])),
         1 => nine[6..9].fill(r.pick(&[0, 0x8000_0000])),
         2 => {
-            let beside = (0.98f32 * f(range)).abs().to_bits() + r.below(3) as u32;
-            nine[r.below(3) as usize] = beside.saturating_sub(1).min(0x7F7F_FFFF) | (r.any() & 0x8000_0000);
+            let (product, set) = ((0.98f32 * f(range)).abs().to_bits(), r.below(8) as u32);
+            nine[..3].copy_from_slice(&gyroscope(r, product, set));
         }
         3 => nine[r.below(9) as usize] = r.finite(),
         4 => nine[r.below(9) as usize] = r.edge(),

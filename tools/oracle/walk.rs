@@ -48,7 +48,7 @@ impl Walk {
         let pull = if self.disturbed > 0 { 60.0 } else { 0.5 };
         let mut args = [0; 9];
         for i in 0..3 {
-            let blow = if self.knocked > 50 && i == 1 { 700.0 } else { 0.0 };
+            let blow = if self.knocked > 50 { r.pick(&[700.0, -700.0, 0.0, 0.0]) } else { 0.0 };
             let up = self.flip * self.up[i];
             args[i] = bits(self.turn[i] + r.within(0.2) + blow);
             args[3 + i] = bits(up + r.within(knock));
