@@ -67,7 +67,7 @@ ahrs t c q a startup gain over acceleration magnetic =
 abbrev given : Ahrs → Settings → Config → Ahrs
 given s t c = ahrs t c (s .quaternion) (s .accelerometer) (s .startup) (s .«startup_gain») (s .«overrange_recovery») (s .acceleration) (s .magnetic)
 
-abbrev starting : Ahrs → Bool → Float → Axes → Ahrs
+abbrev pub starting : Ahrs → Bool → Float → Axes → Ahrs
 starting s on gain over = ahrs (s .settings) (s .config) (s .quaternion) (s .accelerometer) on gain over (s .acceleration) (s .magnetic)
 
 abbrev rejecting : Ahrs → Rejection → Rejection → Ahrs

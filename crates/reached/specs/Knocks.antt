@@ -11,7 +11,7 @@ use Rattle.settings.specs.declared.axes.Axes.{Axes}
 use Rattle.settings.specs.Config.{derivedOf}
 use Rattle.settings.specs.Axes.{none, anyOf, overOf}
 use Rattle.ahrs.specs.declared.Ahrs.{Ahrs}
-use Rattle.ahrs.specs.Filter.{freshOf, updatedOf}
+use Rattle.ahrs.specs.Filter.{freshOf, starting, updatedOf}
 use Rattle.ahrs.specs.Calls.{updateChecks, stateChecks}
 use Rattle.reached.specs.Runs.{Call, update, restart, skip-startup, set-settings, set-sample-period, set-quaternion, outlineOf}
 
@@ -56,18 +56,7 @@ ReadingsOwn =
 
 -- a state with the set forgotten
 abbrev pub forgotten : Ahrs → Ahrs
-forgotten s =
-    record {
-      settings = s .settings;
-      config = s .config;
-      quaternion = s .quaternion;
-      accelerometer = s .accelerometer;
-      startup = s .startup;
-      «startup_gain» = s .«startup_gain»;
-      «overrange_recovery» = none;
-      acceleration = s .acceleration;
-      magnetic = s .magnetic;
-    }
+forgotten s = starting s (s .startup) (s .«startup_gain») none
 
 -- what a call tells, and all else that it leaves, are the same with the set forgotten before it
 pub record OnlyShown : Type 0 where
