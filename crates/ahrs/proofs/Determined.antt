@@ -35,4 +35,5 @@ determined =
       vector = λ s v. only-one .answered _ _ _ _;
       flags = λ s. only-one .answered _ _ _ _;
       internal-states = λ s r t p q. only-one .answered _ _ _ _ r t (p .answer) (q .answer);
+      ignored-counts = λ s. only-one .answered _ _ _ _;
     }

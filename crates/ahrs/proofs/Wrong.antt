@@ -1,5 +1,5 @@
 -- Wrong answers that the promises refuse, two at least for each public call, each by evaluation. Assumes nothing.
-use Prim.Native.Nat.{ℕ, _+_}
+use Prim.Native.Nat.{ℕ, _+_, _*_}
 use native.Mathlib.Omega.{arith}
 use mathlib.Core.Path.{_≡_, ap, refl}
 use mathlib.Core.Bool.{Bool, true, false, cond}
@@ -28,16 +28,17 @@ use Rattle.ahrs.specs.declared.read.QuaternionRead as turned
 use Rattle.ahrs.specs.declared.read.VectorRead as vectors
 use Rattle.ahrs.specs.declared.read.FlagsRead as flags
 use Rattle.ahrs.specs.declared.read.StatesRead as states
+use Rattle.ahrs.specs.declared.read.IgnoredRead as counts
 use Rattle.settings.specs.Config.{finiteSettings, finiteConfig, limitOf, derivedOf}
 use Rattle.settings.specs.Axes.{axes, none, overOf}
-use Rattle.step.specs.Sensor.{resetOf, skippedOf, halfInclinationFeedbackOf, halfHeadingFeedbackOf, finiteRejection}
+use Rattle.step.specs.Sensor.{resetOf, longerOf, skippedOf, halfInclinationFeedbackOf, halfHeadingFeedbackOf, finiteRejection}
 use Rattle.step.specs.Direction.{halfGravityOf, halfWestOf}
 use Rattle.step.specs.Rate.{startupGainOf, rateOf, integratedOf}
 use Rattle.ahrs.specs.Filter.{finiteState, freshOf, restartedOf, skippedStartup, withThreshold, withSettings, withSamplePeriod, withQuaternion}
 use Rattle.ahrs.specs.Filter.{overrangeOf, halfFeedbackOf, updatedOf}
 use Rattle.ahrs.specs.Read.{gravityOf, linearOf, earthFrameOf, withoutGravity, earthOf, flagsOf, statesOf}
 use Rattle.ahrs.specs.Calls.{Starts, Updates, Restarts, SkipsStartup, SetsSettings, SetsSamplePeriod, settable, SetsQuaternion}
-use Rattle.ahrs.specs.Calls.{SettingsReads, QuaternionReads, VectorReads, FlagsReads, StatesReads}
+use Rattle.ahrs.specs.Calls.{SettingsReads, QuaternionReads, VectorReads, FlagsReads, StatesReads, IgnoredReads}
 
 abbrev still : Vector
 still = vector nought nought nought
@@ -69,9 +70,10 @@ three on =
       «rejection_timeout» = pos 3;
     }
 
--- 2 of 3 readings over the limit
-abbrev waiting : Rejection
-waiting = record { «half_residual» = still; «recovery_trigger» = pos 2; «recovery_threshold» = pos 3; ignored = true }
+-- 2 of 3 readings over the limit, and so often ignored in a row
+abbrev waiting : ℕ → Rejection
+waiting count =
+    record { «half_residual» = still; «recovery_trigger» = pos 2; «recovery_threshold» = pos 3; ignored = true; «ignored_count» = count }
 
 -- a state in startup, by its convention, its orientation, whether overrange is on and what went over
 abbrev state : ℕ → Quaternion → Bool → Axes → Ahrs
@@ -84,8 +86,8 @@ state n q on over =
       startup = true;
       «startup_gain» = one;
       «overrange_recovery» = over;
-      acceleration = waiting;
-      magnetic = waiting;
+      acceleration = waiting 2;
+      magnetic = waiting 5;
     }
 
 abbrev oriented : ℕ → Quaternion → Ahrs
@@ -169,6 +171,45 @@ of-knocked = (
   λ n other h. other (ap axes-in (h .holds)),
   λ n other h. other (ap axes-in (h .holds)),
   λ n other h. other (ap axes-in (h .holds)),
+)
+
+-- a state's two counts as a number: the accelerometer's hundreds, and the magnetometer's
+abbrev counts-in : Ahrs → ℕ
+counts-in s = 100 * s .acceleration .«ignored_count» + s .magnetic .«ignored_count»
+
+-- both sensors skipped: any counts but one more each, be they left or swapped; in an overrange any but 1 each, be they cleared after it or not at all; and any
+-- but those before where the update is refused
+pub of-ignored
+    : ((n : Ahrs) (r : Answer) → (counts-in n ≡ 306 → ⊥) → Updates over still still still (record { state = n; answer = r }) → ⊥)
+    × ((n : Ahrs) (r : Answer) → (counts-in n ≡ 101 → ⊥)
+    → Updates knocked (vector nought nought two) still still (record { state = n; answer = r }) → ⊥)
+    × ((n : Ahrs) (r : Answer) → (counts-in n ≡ 205 → ⊥) → Updates (at-start 3) still still still (record { state = n; answer = r }) → ⊥)
+unfolding refusalOf finiteState finiteSettings finiteConfig finiteQuaternion finiteVector finiteRejection
+    updatedOf overrangeOf overOf startupGainOf halfFeedbackOf halfGravityOf halfWestOf halfInclinationFeedbackOf halfHeadingFeedbackOf resetOf skippedOf
+    longerOf rateOf integratedOf normalizeOf normOf normSquaredOf sqrtOf rootBitsOf squaredOf exponentOf significandOf nearestRootOf floorRoot leadingZeros
+    fabsfOf eq lt add sub mul div neg sum round units odd ofBits toBits
+of-ignored = (
+  λ n r other h. other (ap counts-in (h .state)),
+  λ n r other h. other (ap counts-in (h .state)),
+  λ n r other h. other (ap counts-in (h .state)),
+)
+
+-- any counts left by a restart; any but those before by startup skipped, settings, a period or a quaternion
+pub of-counted
+    : ((n : Ahrs) → (counts-in n ≡ 0 → ⊥) → Restarts knocked (record { state = n; number = 0 }) → ⊥)
+    × ((n : Ahrs) → (counts-in n ≡ 205 → ⊥) → SkipsStartup knocked (record { state = n; number = 0 }) → ⊥)
+    × ((n : Ahrs) → (counts-in n ≡ 205 → ⊥) → SetsSettings knocked (at-rate one 0) (record { state = n; number = 0 }) → ⊥)
+    × ((n : Ahrs) → (counts-in n ≡ 205 → ⊥) → SetsSamplePeriod knocked two (record { state = n; number = 0 }) → ⊥)
+    × ((n : Ahrs) → (counts-in n ≡ 205 → ⊥) → SetsQuaternion knocked (quaternion nought one nought nought) (record { state = n; number = 0 }) → ⊥)
+unfolding refusalOf finiteState finiteSettings finiteConfig finiteQuaternion finiteVector finiteRejection freshOf resetOf skippedStartup
+    derivedOf limitOf withSettings withThreshold withSamplePeriod withQuaternion settable normSquaredOf
+    eq ne lt le add sub mul div neg sum round units odd ofBits
+of-counted = (
+  λ n other h. other (ap counts-in (h .holds)),
+  λ n other h. other (ap counts-in (h .holds)),
+  λ n other h. other (ap counts-in (h .holds)),
+  λ n other h. other (ap counts-in (h .holds)),
+  λ n other h. other (ap counts-in (h .holds)),
 )
 
 -- a restart that keeps the triggers; one of a state that is refused
@@ -356,3 +397,15 @@ pub of-states
 unfolding refusalOf finiteState finiteSettings finiteConfig finiteQuaternion finiteVector finiteRejection statesOf
 of-states =
     (λ h. unlike 0 1 refl (ap is-ignored (h .answer .exact)), λ h. unlike 0 4 refl (h .answer .number), λ h. unlike 7 0 refl (h .answer .number))
+
+abbrev counted : ℕ → ℕ → counts.IgnoredRead
+counted a m = counts.the-variants.Read (record { accelerometer = a; magnetometer = m })
+
+abbrev first-count : counts.IgnoredRead → ℕ
+first-count (counts.the-variants.Read i) = i .accelerometer
+first-count (counts.the-variants.Refused n) = n
+
+-- the two counts swapped; those of a state that is refused
+pub of-ignored-counts : (IgnoredReads (at-start 0) (counted 5 2) → ⊥) × (IgnoredReads (at-start 3) (counted 2 5) → ⊥)
+unfolding refusalOf finiteState finiteSettings finiteConfig finiteQuaternion finiteVector finiteRejection
+of-ignored-counts = (λ h. unlike 5 2 refl (ap first-count (h .exact)), λ h. unlike 0 4 refl (h .number))

@@ -27,8 +27,10 @@ use Rattle.ahrs.specs.declared.read.Flags.{Flags}
 use Rattle.ahrs.specs.declared.read.FlagsRead as flags
 use Rattle.ahrs.specs.declared.read.InternalStates.{InternalStates}
 use Rattle.ahrs.specs.declared.read.StatesRead as states
+use Rattle.ahrs.specs.declared.read.IgnoredCounts.{IgnoredCounts}
+use Rattle.ahrs.specs.declared.read.IgnoredRead as ignored
 use Rattle.ahrs.specs.Filter.{finiteState, freshOf, restartedOf, skippedStartup, withSettings, withSamplePeriod, withQuaternion, updatedOf}
-use Rattle.ahrs.specs.Read.{flagsOf, statesOf}
+use Rattle.ahrs.specs.Read.{flagsOf, statesOf, ignoredOf}
 
 -- ---- a start, by the checks of its settings
 
@@ -145,3 +147,10 @@ finiteStates (states.the-variants.Refused n) = true
 pub record StatesReads (s : Ahrs) (r : states.StatesRead) : Type 0 where
   pub answer : Answered statesSaid states.the-variants.Refused (stateChecks s) (states.the-variants.Read (statesOf s)) r
   pub is-finite : finiteStates r ≡ true
+
+abbrev pub ignoredSaid : ignored.IgnoredRead → Said IgnoredCounts
+ignoredSaid (ignored.the-variants.Read i) = values (i ∷ [])
+ignoredSaid (ignored.the-variants.Refused n) = refusal n
+
+abbrev pub IgnoredReads : Ahrs → ignored.IgnoredRead → Type 0
+IgnoredReads s r = Answered ignoredSaid ignored.the-variants.Refused (stateChecks s) (ignored.the-variants.Read (ignoredOf s)) r

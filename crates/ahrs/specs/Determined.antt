@@ -7,7 +7,7 @@ use Rattle.math.specs.declared.quaternion.Quaternion.{Quaternion}
 use Rattle.settings.specs.declared.Settings.{Settings}
 use Rattle.ahrs.specs.declared.Ahrs.{Ahrs}
 use Rattle.ahrs.specs.Calls.{Starts, Updates, Restarts, SkipsStartup, SetsSettings, SetsSamplePeriod, SetsQuaternion}
-use Rattle.ahrs.specs.Calls.{SettingsReads, QuaternionReads, VectorReads, FlagsReads, StatesReads}
+use Rattle.ahrs.specs.Calls.{SettingsReads, QuaternionReads, VectorReads, FlagsReads, StatesReads, IgnoredReads}
 
 pub record Determined : Type 0 where
   pub start : (t : Settings) → One (Starts t)
@@ -25,3 +25,4 @@ pub record Determined : Type 0 where
   pub vector : (s : Ahrs) (v : Vector) → One (VectorReads s v)
   pub flags : (s : Ahrs) → One (FlagsReads s)
   pub internal-states : (s : Ahrs) → One (StatesReads s)
+  pub ignored-counts : (s : Ahrs) → One (IgnoredReads s)

@@ -14,7 +14,7 @@ pub record ExactlyWhen : Type 0 where
   pub set-settings : (s : Ahrs) (t : Settings) → Exactly (changeChecks s t)
   pub set-sample-period : (s : Ahrs) (period : Float) → Exactly (periodChecks s period)
   pub set-quaternion : (s : Ahrs) (q : Quaternion) → Exactly (quaternionChecks s q)
-  -- restart, skip_startup, settings, quaternion, flags and internal_states
+  -- restart, skip_startup, settings, quaternion, flags, internal_states and ignored_counts
   pub of-the-state : (s : Ahrs) → Exactly (stateChecks s)
   -- gravity and the two accelerations
   pub vector : (s : Ahrs) (v : Vector) → Exactly (vectorChecks s v)

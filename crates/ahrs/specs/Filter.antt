@@ -70,7 +70,7 @@ given s t c = ahrs t c (s .quaternion) (s .accelerometer) (s .startup) (s .«sta
 abbrev pub starting : Ahrs → Bool → Float → Axes → Ahrs
 starting s on gain over = ahrs (s .settings) (s .config) (s .quaternion) (s .accelerometer) on gain over (s .acceleration) (s .magnetic)
 
-abbrev rejecting : Ahrs → Rejection → Rejection → Ahrs
+abbrev pub rejecting : Ahrs → Rejection → Rejection → Ahrs
 rejecting s a m = ahrs (s .settings) (s .config) (s .quaternion) (s .accelerometer) (s .startup) (s .«startup_gain») (s .«overrange_recovery») a m
 
 unfoldable pub withQuaternion : Ahrs → Quaternion → Ahrs
@@ -84,6 +84,7 @@ withThreshold r timeout =
       «recovery_trigger» = r .«recovery_trigger»;
       «recovery_threshold» = timeout;
       ignored = r .ignored;
+      «ignored_count» = r .«ignored_count»;
     }
 
 -- a settings change sets both thresholds to the new T

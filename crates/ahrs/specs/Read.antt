@@ -10,6 +10,7 @@ use Rattle.rejection.specs.Counts.{recoveryOf}
 use Rattle.ahrs.specs.declared.Ahrs.{Ahrs}
 use Rattle.ahrs.specs.declared.read.Flags.{Flags}
 use Rattle.ahrs.specs.declared.read.InternalStates.{InternalStates}
+use Rattle.ahrs.specs.declared.read.IgnoredCounts.{IgnoredCounts}
 use Rattle.step.specs.Sensor.{countsOf, ratioOf}
 use Rattle.step.specs.Direction.{half, halfGravityOf}
 
@@ -54,3 +55,7 @@ statesOf s =
       «magnetometer_ignored» = s .magnetic .ignored;
       «magnetic_recovery_trigger» = ratioOf (s .magnetic .«recovery_trigger») timeout;
     }
+
+-- 02 P5: updates in a row, up to now, in which each sensor was ignored
+abbrev pub ignoredOf : Ahrs → IgnoredCounts
+ignoredOf s = record { accelerometer = s .acceleration .«ignored_count»; magnetometer = s .magnetic .«ignored_count» }

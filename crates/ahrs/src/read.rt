@@ -8,7 +8,7 @@ use vector::Vector;
 ghost use mathlib.Core.Path.{_≡_};
 ghost use Rattle.answer.specs.Refusals.{refusalOf};
 ghost use Rattle.ahrs.specs.Read.{gravityOf, linearOf, earthFrameOf, withoutGravity, earthOf};
-ghost use Rattle.ahrs.specs.Calls.{SettingsReads, QuaternionReads, vectorChecks, VectorReads, FlagsReads, StatesReads};
+ghost use Rattle.ahrs.specs.Calls.{SettingsReads, QuaternionReads, vectorChecks, VectorReads, FlagsReads, StatesReads, IgnoredReads};
 
 pub enum SettingsRead {
     Read(Settings),
@@ -48,6 +48,17 @@ pub struct InternalStates {
 
 pub enum StatesRead {
     Read(InternalStates),
+    Refused(u8),
+}
+
+// How many updates in a row, up to now, have ignored each sensor. A reading of zeros is ignored too; the largest count stays.
+pub struct IgnoredCounts {
+    pub accelerometer: u32,
+    pub magnetometer: u32,
+}
+
+pub enum IgnoredRead {
+    Read(IgnoredCounts),
     Refused(u8),
 }
 
@@ -210,5 +221,20 @@ impl Ahrs {
             magnetic_recovery_trigger: magnetic.recovery_trigger(timeout),
         };
         StatesRead::Read(states)
+    }
+
+    pub fn ignored_counts(self) -> IgnoredRead
+        ensures { λ r. ⌜ IgnoredReads self r ⌝ }
+    {
+        let number = self.refusal();
+        if number != 0 {
+            return IgnoredRead::Refused(number);
+        }
+        let acceleration = self.acceleration;
+        let magnetic = self.magnetic;
+        IgnoredRead::Read(IgnoredCounts {
+            accelerometer: acceleration.ignored_count,
+            magnetometer: magnetic.ignored_count,
+        })
     }
 }

@@ -1,28 +1,33 @@
--- Nothing but the set itself depends on the axes that went over: `OnlyShown` holds. Assumes nothing.
+-- Nothing else depends on the axes that went over and on the counts of ignored updates: `OnlyShown` holds. Assumes nothing.
 use Prim.Native.Nat.{ℕ, zero, suc}
 use mathlib.Core.Path.{_≡_, refl, ap, ap₂, _∙_}
 use mathlib.Core.Bool.{Bool, true, false, cond, not, _&&_}
 use mathlib.Core.List.{[], _∷_}
+use lib.IntN.{ℤ}
 use lib.Ieee.{Float, lt}
 use Rattle.number.specs.Float32.{_⊖_}
 use Rattle.answer.specs.Refusals.{refusalOf, accepted, check}
 use Rattle.answer.specs.declared.Answer.the-variants.{Refused}
 use Rattle.answer.specs.Runs.{answer, stepOf}
 use Rattle.vector.specs.declared.Vector.{Vector}
-use Rattle.vector.specs.Vectors.{finiteVector, mulOf}
+use Rattle.vector.specs.Vectors.{finiteVector, isZeroOf, addOf, mulOf}
 use Rattle.math.specs.declared.quaternion.Quaternion.{Quaternion}
 use Rattle.settings.specs.declared.config.Config.{Config}
 use Rattle.settings.specs.declared.axes.Axes.{Axes}
 use Rattle.settings.specs.Config.{knownConvention, derivedOf}
 use Rattle.settings.specs.Axes.{none, anyOf, overOf}
+use Rattle.step.specs.declared.Rejection.{Rejection}
 use Rattle.step.specs.declared.rate.Startup.{Startup}
+use Rattle.step.specs.declared.sensor.Feedback.{Feedback}
+use Rattle.step.specs.Sensor.{skippedOf, rejectedOf, halfInclinationFeedbackOf, halfHeadingFeedbackOf, finiteRejection}
 use Rattle.step.specs.Rate.{startup, startupGainOf, rateOf, integratedOf}
 use Rattle.ahrs.specs.declared.Ahrs.{Ahrs}
-use Rattle.ahrs.specs.Filter.{finiteState, freshOf, restartedOf, skippedStartup, withSettings, withSamplePeriod, withQuaternion}
+use Rattle.ahrs.specs.declared.update.HalfFeedback.{HalfFeedback}
+use Rattle.ahrs.specs.Filter.{finiteState, freshOf, restartedOf, skippedStartup, withSettings, withThreshold, withSamplePeriod, withQuaternion}
 use Rattle.ahrs.specs.Filter.{softRestartedOf, overrangeOf, halfFeedbackOf, updatedOf}
 use Rattle.ahrs.specs.Calls.{updateChecks, orientedOf, stateChecks, changeChecks, periodChecks, quaternionChecks}
 use Rattle.reached.specs.Runs.{Call, update, restart, skip-startup, set-settings, set-sample-period, set-quaternion, outlineOf}
-use Rattle.reached.specs.Knocks.{forgotten, OnlyShown}
+use Rattle.reached.specs.Shown.{uncounted, forgotten, OnlyShown}
 
 -- ---- an update
 
@@ -45,10 +50,38 @@ startup-alone c true gain over = go (lt (c .gain) (gain ⊖ c .«startup_gain_ra
     go true = refl
     go false = refl
 
--- what an update leaves beside the set, by the state after the overrange and by what startup leaves beside it
-abbrev left : Ahrs → Vector → Vector → Vector → Startup → Ahrs
-left now g a m s =
-    let feedback = halfFeedbackOf now a m (s .startup) in
+-- what a sensor's update leaves and gives, with the count forgotten
+abbrev quiet : Feedback → Feedback
+quiet f = record { rejection = uncounted (f .rejection); «half_feedback» = f .«half_feedback» }
+
+-- skipped, or judged by its residual
+quiet-by
+    : (b : Bool) (r : Rejection) (v : Vector) (on : Bool) (limit : Float) (timeout : ℤ)
+    → quiet (cond b (skippedOf (uncounted r)) (rejectedOf (uncounted r) v on limit timeout))
+    ≡ quiet (cond b (skippedOf r) (rejectedOf r v on limit timeout))
+unfolding skippedOf rejectedOf
+quiet-by true r v on limit timeout = refl
+quiet-by false r v on limit timeout = refl
+
+-- both sensors'
+abbrev quiet-both : HalfFeedback → HalfFeedback
+quiet-both f =
+    record { acceleration = uncounted (f .acceleration); magnetic = uncounted (f .magnetic); «half_feedback» = f .«half_feedback» }
+
+feedback-rest : (s : Ahrs) (a m : Vector) (on : Bool) → quiet-both (halfFeedbackOf (forgotten s) a m on) ≡ quiet-both (halfFeedbackOf s a m on)
+unfolding halfFeedbackOf halfInclinationFeedbackOf halfHeadingFeedbackOf
+feedback-rest s a m on =
+    ap₂
+    (λ (i h : Feedback). record {
+      acceleration = i .rejection;
+      magnetic = h .rejection;
+      «half_feedback» = addOf (i .«half_feedback») (h .«half_feedback»);
+    })
+    (quiet-by (isZeroOf a) (s .acceleration) _ on _ _) (quiet-by (isZeroOf m) (s .magnetic) _ on _ _)
+
+-- what an update leaves beside the set and the counts, by the state after the overrange, what startup leaves and the feedback
+abbrev left : Ahrs → Vector → Vector → Startup → HalfFeedback → Ahrs
+left now g a s feedback =
     record {
       settings = now .settings;
       config = now .config;
@@ -62,7 +95,7 @@ left now g a m s =
     }
 
 updated-rest : (s : Ahrs) (g a m : Vector) → forgotten (updatedOf (forgotten s) g a m) ≡ forgotten (updatedOf s g a m)
-unfolding updatedOf overrangeOf halfFeedbackOf
+unfolding updatedOf overrangeOf
 updated-rest s g a m = go (anyOf over)
   where
     over : Axes
@@ -72,14 +105,19 @@ updated-rest s g a m = go (anyOf over)
     now b k = cond b (softRestartedOf k over) k
 
     next : Bool → Ahrs → Startup
-    next b k = startupGainOf (now b k .config) (now b k .startup) (now b k .«startup_gain») (now b k .«overrange_recovery»)
+    next b k = alone (startupGainOf (now b k .config) (now b k .startup) (now b k .«startup_gain») (now b k .«overrange_recovery»))
 
-    go : (b : Bool) → left (now b (forgotten s)) g a m (alone (next b (forgotten s))) ≡ left (now b s) g a m (alone (next b s))
+    by : Ahrs → Startup → Ahrs
+    by k r = left k g a r (quiet-both (halfFeedbackOf k a m (r .startup)))
+
+    go : (b : Bool) → by (now b (forgotten s)) (next b (forgotten s)) ≡ by (now b s) (next b s)
     go true = refl
-    go false = ap (left s g a m) (startup-alone (s .config) (s .startup) (s .«startup_gain») (s .«overrange_recovery»))
+    go false =
+        ap (left s g a (next false (forgotten s))) (feedback-rest s a m (next false (forgotten s) .startup))
+        ∙ ap (by s) (startup-alone (s .config) (s .startup) (s .«startup_gain») (s .«overrange_recovery»))
 
 refused-alike : (s : Ahrs) (g a m : Vector) → refusalOf (updateChecks (forgotten s) g a m) ≡ refusalOf (updateChecks s g a m)
-unfolding finiteState
+unfolding finiteState finiteRejection
 refused-alike s g a m =
     let given = finiteState s && (finiteVector g && finiteVector a && finiteVector m) in
     ap
@@ -94,19 +132,19 @@ alike zero s new next h = h
 alike (suc n) s new next h = refl
 
 rest-after : (s : Ahrs) (c : Call) → forgotten (stepOf outlineOf (forgotten s) c .state) ≡ forgotten (stepOf outlineOf s c .state)
-unfolding finiteState freshOf skippedStartup withSettings withSamplePeriod withQuaternion
+unfolding finiteState finiteRejection freshOf skippedStartup withSettings withThreshold withSamplePeriod withQuaternion
 rest-after s (update g a m) =
     alike (refusalOf (updateChecks (forgotten s) g a m)) s (updatedOf (forgotten s) g a m) (updatedOf s g a m) (updated-rest s g a m)
     ∙ ap (λ (n : ℕ). forgotten (accepted n (updatedOf s g a m) s)) (refused-alike s g a m)
 rest-after s restart = alike (refusalOf (stateChecks s)) s (restartedOf s) (restartedOf s) refl
-rest-after s skip-startup = alike (refusalOf (stateChecks s)) s (skippedStartup s) (skippedStartup s) refl
+rest-after s skip-startup = alike (refusalOf (stateChecks s)) s (skippedStartup (forgotten s)) (skippedStartup s) refl
 rest-after s (set-settings t) =
     alike (refusalOf (changeChecks s t)) s (withSettings (forgotten s) t (derivedOf t)) (withSettings s t (derivedOf t)) refl
 rest-after s (set-sample-period p) = alike (refusalOf (periodChecks s p)) s (withSamplePeriod (forgotten s) p) (withSamplePeriod s p) refl
 rest-after s (set-quaternion q) = alike (refusalOf (quaternionChecks s q)) s (withQuaternion (forgotten s) q) (withQuaternion s q) refl
 
 told-after : (s : Ahrs) (c : Call) → stepOf outlineOf (forgotten s) c .told ≡ stepOf outlineOf s c .told
-unfolding finiteState
+unfolding finiteState finiteRejection
 told-after s (update g a m) =
     ap₂ (λ (n : ℕ) (q : Quaternion). answer (accepted n (orientedOf q) (Refused n)))
     (refused-alike s g a m) (ap (λ (k : Ahrs). k .quaternion) (updated-rest s g a m))

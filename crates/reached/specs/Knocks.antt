@@ -11,7 +11,7 @@ use Rattle.settings.specs.declared.axes.Axes.{Axes}
 use Rattle.settings.specs.Config.{derivedOf}
 use Rattle.settings.specs.Axes.{none, anyOf, overOf}
 use Rattle.ahrs.specs.declared.Ahrs.{Ahrs}
-use Rattle.ahrs.specs.Filter.{freshOf, starting, updatedOf}
+use Rattle.ahrs.specs.Filter.{freshOf, updatedOf}
 use Rattle.ahrs.specs.Calls.{updateChecks, stateChecks}
 use Rattle.reached.specs.Runs.{Call, update, restart, skip-startup, set-settings, set-sample-period, set-quaternion, outlineOf}
 
@@ -51,14 +51,3 @@ abbrev pub ReadingsOwn : Type 0
 ReadingsOwn =
     (s : Ahrs) (g a m : Vector) → refusalOf (updateChecks s g a m) ≡ 0 → anyOf (overOf (s .config) g) ≡ true
     → let next = stepOf outlineOf s (update g a m) .state in next .startup ≡ true → next .«overrange_recovery» ≡ overOf (s .config) g
-
--- ---- it is only shown
-
--- a state with the set forgotten
-abbrev pub forgotten : Ahrs → Ahrs
-forgotten s = starting s (s .startup) (s .«startup_gain») none
-
--- what a call tells, and all else that it leaves, are the same with the set forgotten before it
-pub record OnlyShown : Type 0 where
-  pub told : (s : Ahrs) (c : Call) → stepOf outlineOf (forgotten s) c .told ≡ stepOf outlineOf s c .told
-  pub rest : (s : Ahrs) (c : Call) → forgotten (stepOf outlineOf (forgotten s) c .state) ≡ forgotten (stepOf outlineOf s c .state)

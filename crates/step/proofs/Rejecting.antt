@@ -1,7 +1,7 @@
 -- What each return of a rejection has to show, from what the counts' update says; and a whole number tested against 0. Assumes nothing.
 use mathlib.Core.Path.{_≡_, refl, sym, ap, ap₂, _∙_}
 use mathlib.Core.Bool.{Bool, true, false, not, _||_}
-use Prim.Native.Nat.{zero, suc}
+use Prim.Native.Nat.{ℕ, zero, suc}
 use mir.Syntax.{w32}
 use mir.Val.{toZ, ofZ}
 use lib.IntN.{ℤ, pos, negsuc}
@@ -13,13 +13,19 @@ use Rattle.rejection.specs.declared.Updated.{Updated}
 use Rattle.rejection.specs.Counts.{updatedOf}
 use Rattle.step.specs.declared.Rejection.{Rejection}
 use Rattle.step.specs.declared.sensor.Feedback.{Feedback}
-use Rattle.step.specs.Sensor.{countsOf, keptOf, rejectedOf, isNought}
+use Rattle.step.specs.Sensor.{countsOf, longerOf, keptOf, rejectedOf, isNought}
 
-abbrev feedback : Vector → Counts → Bool → Vector → Feedback
-feedback residual c ignored given =
+abbrev feedback : Vector → Counts → Bool → ℕ → Vector → Feedback
+feedback residual c ignored count given =
     record {
       rejection =
-          record { «half_residual» = residual; «recovery_trigger» = c .trigger; «recovery_threshold» = c .threshold; ignored = ignored };
+          record {
+            «half_residual» = residual;
+            «recovery_trigger» = c .trigger;
+            «recovery_threshold» = c .threshold;
+            ignored = ignored;
+            «ignored_count» = count;
+          };
       «half_feedback» = given;
     }
 
@@ -27,15 +33,17 @@ feedback residual c ignored given =
 module _
     (r : Rejection) (v : Vector) (startup : Bool) (limit : Float) (timeout : ℤ) {n : Float} {c : Counts} {s : Updated}
     (en : n ≡ normSquaredOf v) (ec : c ≡ countsOf r) (es : s ≡ updatedOf timeout c (not (startup || le n limit))) where
-  settled : keptOf v s ≡ rejectedOf r v startup limit timeout
+  settled : keptOf (r .«ignored_count») v s ≡ rejectedOf r v startup limit timeout
   unfolding rejectedOf
-  settled = ap (keptOf v) (es ∙ ap₂ (λ (k : Counts) (x : Float). updatedOf timeout k (not (startup || le x limit))) ec en)
+  settled = ap (keptOf (r .«ignored_count») v) (es ∙ ap₂ (λ (k : Counts) (x : Float). updatedOf timeout k (not (startup || le x limit))) ec en)
 
-  pub used : s .used ≡ true → feedback v (s .counts) false v ≡ rejectedOf r v startup limit timeout
+  pub used : s .used ≡ true → feedback v (s .counts) false 0 v ≡ rejectedOf r v startup limit timeout
   used h = (rw h) ∙ settled
 
-  pub ignored : s .used ≡ false → feedback v (s .counts) true zeroVector ≡ rejectedOf r v startup limit timeout
-  ignored h = (rw h) ∙ settled
+  pub ignored
+      : {count : ℕ} → count ≡ longerOf (r .«ignored_count») → s .used ≡ false
+      → feedback v (s .counts) true count zeroVector ≡ rejectedOf r v startup limit timeout
+  ignored e h = (rw (e, h)) ∙ settled
 
 -- ---- a whole number tested against 0 by its bits
 

@@ -19,7 +19,7 @@ use Rattle.settings.specs.declared.axes.Axes.{Axes}
 use Rattle.settings.specs.Axes.{axes, none}
 use Rattle.step.specs.declared.rate.Startup.{Startup}
 use Rattle.step.specs.declared.sensor.Feedback.{Feedback}
-use Rattle.step.specs.Sensor.{countsOf, residualOf, resetOf, skippedOf, rejectedOf, halfInclinationFeedbackOf, halfHeadingFeedbackOf}
+use Rattle.step.specs.Sensor.{countsOf, residualOf, resetOf, longerOf, skippedOf, rejectedOf, halfInclinationFeedbackOf, halfHeadingFeedbackOf}
 use Rattle.step.specs.Sensor.{ratioOf, finiteRejection}
 use Rattle.step.specs.Direction.{halfGravityOf, halfWestOf}
 use Rattle.step.specs.Rate.{startup, startupGainOf, rateOf, integratedOf}
@@ -123,9 +123,19 @@ pub of-residual
 unfolding residualOf dotOf lt add sub mul neg sum round units odd ofBits toBits
 of-residual = (λ h. apart in-y h refl, λ h. apart in-y h refl)
 
+abbrev counting : Vector → ℕ → ℕ → Bool → ℕ → Rejection
+counting v trigger threshold ignored count =
+    record {
+      «half_residual» = v;
+      «recovery_trigger» = pos trigger;
+      «recovery_threshold» = pos threshold;
+      ignored = ignored;
+      «ignored_count» = count;
+    }
+
+-- used, or ignored once
 abbrev rejection : Vector → ℕ → ℕ → Bool → Rejection
-rejection v trigger threshold ignored =
-    record { «half_residual» = v; «recovery_trigger» = pos trigger; «recovery_threshold» = pos threshold; ignored = ignored }
+rejection v trigger threshold ignored = counting v trigger threshold ignored (cond ignored 1 0)
 
 -- the codes of what it has
 abbrev trigger : Rejection → ℕ
@@ -137,10 +147,21 @@ threshold r = mag (r .«recovery_threshold»)
 abbrev ignored : Rejection → ℕ
 ignored r = cond (r .ignored) 1 0
 
--- a threshold of 0; ignored from the start
-pub of-reset : (rejection still 0 0 false ≡ resetOf (pos 3) → ⊥) × (rejection still 0 3 true ≡ resetOf (pos 3) → ⊥)
+abbrev count : Rejection → ℕ
+count r = r .«ignored_count»
+
+-- the largest u32 wrapped; the one below it taken for the largest
+pub of-longer : (0 ≡ longerOf 4294967295 → ⊥) × (4294967294 ≡ longerOf 4294967294 → ⊥)
+unfolding longerOf
+of-longer = (λ h. apart (λ (n : ℕ). n) h refl, λ h. apart (λ (n : ℕ). n) h refl)
+
+-- a threshold of 0; ignored from the start; or counted so
+pub of-reset
+    : (rejection still 0 0 false ≡ resetOf (pos 3) → ⊥)
+    × (rejection still 0 3 true ≡ resetOf (pos 3) → ⊥)
+    × (counting still 0 3 false 1 ≡ resetOf (pos 3) → ⊥)
 unfolding resetOf
-of-reset = (λ h. apart threshold h refl, λ h. apart ignored h refl)
+of-reset = (λ h. apart threshold h refl, λ h. apart ignored h refl, λ h. apart count h refl)
 
 -- 2 of 3 readings over the limit
 abbrev waiting : Rejection
@@ -160,6 +181,15 @@ pub of-skip : (gives waiting still ≡ skippedOf waiting → ⊥) × (gives (rej
 unfolding skippedOf
 of-skip = (λ h. apart ignored (ap then h) refl, λ h. apart trigger (ap then h) refl)
 
+-- ignored five times in a row
+abbrev deaf : Rejection
+deaf = counting still 2 3 true 5
+
+-- a sensor that was skipped not counted; begun anew
+pub of-skipped-count : (gives deaf still ≡ skippedOf deaf → ⊥) × (gives (counting still 2 3 true 1) still ≡ skippedOf deaf → ⊥)
+unfolding skippedOf longerOf
+of-skipped-count = (λ h. apart count (ap then h) refl, λ h. apart count (ap then h) refl)
+
 -- the two swapped; the trigger for both
 pub of-counts : (counted (pos 3) (pos 2) ≡ countsOf waiting → ⊥) × (counted (pos 2) (pos 2) ≡ countsOf waiting → ⊥)
 of-counts = (λ h. apart (λ (c : Counts). mag (c .trigger)) h refl, λ h. apart (λ (c : Counts). mag (c .threshold)) h refl)
@@ -173,6 +203,14 @@ pub of-update
     × (gives (rejection along-x 3 3 true) along-x ≡ rejectedOf waiting along-x false half (pos 3) → ⊥)
 unfolding rejectedOf normSquaredOf updatedOf movedOf saturatedOf clampOf le lt eq add mul sum round units odd ofBits toBits
 of-update = (λ h. apart ignored (ap then h) refl, λ h. apart fed-x h refl)
+
+-- a reading that is ignored not counted; one that is used counted, or only not cleared
+pub of-updated-count
+    : (gives (counting along-x 3 3 true 5) still ≡ rejectedOf deaf along-x false half (pos 3) → ⊥)
+    × (gives (counting along-x 0 3 false 6) along-x ≡ rejectedOf deaf along-x false one (pos 3) → ⊥)
+    × (gives (counting along-x 0 3 false 5) along-x ≡ rejectedOf deaf along-x false one (pos 3) → ⊥)
+unfolding rejectedOf longerOf normSquaredOf updatedOf movedOf saturatedOf clampOf le lt eq add mul sum round units odd ofBits toBits
+of-updated-count = (λ h. apart count (ap then h) refl, λ h. apart count (ap then h) refl, λ h. apart count (ap then h) refl)
 
 -- what a good reading leaves of `waiting`
 abbrev good : Vector → Feedback

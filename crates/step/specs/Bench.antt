@@ -42,7 +42,14 @@ abbrev pub good : Vector → Float → Rejection → Rejection
 good v limit r = reading (pos 20) v limit r .rejection
 
 abbrev pub recovering : Vector → Rejection
-recovering v = record { «half_residual» = v; «recovery_trigger» = pos 20; «recovery_threshold» = pos 0; ignored = false }
+recovering v =
+    record {
+      «half_residual» = v;
+      «recovery_trigger» = pos 20;
+      «recovery_threshold» = pos 0;
+      ignored = false;
+      «ignored_count» = 0;
+    }
 
 pub record Stands (r : Rejection) (trigger threshold : ℤ) : Type 0 where
   pub counted : r .«recovery_trigger» ≡ trigger

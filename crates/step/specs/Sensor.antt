@@ -1,7 +1,8 @@
 -- 01, "Filter": one sensor's rejection. Its counts are those of the crate `rejection`.
 use mathlib.Core.Path.{_≡_}
 use mathlib.Core.Bool.{Bool, true, false, not, cond, _||_}
-use Prim.Native.Nat.{zero, suc}
+use Prim.Native.Nat.{ℕ, zero, suc, _+_}
+use lib.Dec.{ltb}
 use lib.IntN.{ℤ, pos, negsuc}
 use lib.Ieee.{Float, binary32, le, lt, ofInt}
 use lib.Ieee.Scale.{finite}
@@ -26,9 +27,22 @@ residualOf sensor reference =
 
 unfoldable pub resetOf : ℤ → Rejection
 resetOf timeout =
-    record { «half_residual» = zeroVector; «recovery_trigger» = pos 0; «recovery_threshold» = timeout; ignored = false }
+    record {
+      «half_residual» = zeroVector;
+      «recovery_trigger» = pos 0;
+      «recovery_threshold» = timeout;
+      ignored = false;
+      «ignored_count» = 0;
+    }
 
--- an all-zero sensor is marked ignored; its trigger, threshold and residual stay
+-- 02 P5: updates in a row in which the sensor was ignored, and one more; the largest u32 stays
+abbrev pub largestCount : ℕ
+largestCount = 4294967295
+
+unfoldable pub longerOf : ℕ → ℕ
+longerOf n = cond (ltb n largestCount) (n + 1) n
+
+-- an all-zero sensor is marked ignored, and counted so; its trigger, threshold and residual stay
 unfoldable pub skippedOf : Rejection → Feedback
 skippedOf r =
     record {
@@ -38,13 +52,14 @@ skippedOf r =
             «recovery_trigger» = r .«recovery_trigger»;
             «recovery_threshold» = r .«recovery_threshold»;
             ignored = true;
+            «ignored_count» = longerOf (r .«ignored_count»);
           };
       «half_feedback» = zeroVector;
     }
 
 -- the counts are kept, and the residual is used or ignored as it says; one that is ignored gives zero
-abbrev pub keptOf : Vector → Updated → Feedback
-keptOf residual s =
+abbrev pub keptOf : ℕ → Vector → Updated → Feedback
+keptOf count residual s =
     record {
       rejection =
           record {
@@ -52,6 +67,7 @@ keptOf residual s =
             «recovery_trigger» = s .counts .trigger;
             «recovery_threshold» = s .counts .threshold;
             ignored = not (s .used);
+            «ignored_count» = cond (s .used) 0 (longerOf count);
           };
       «half_feedback» = cond (s .used) residual zeroVector;
     }
@@ -59,7 +75,7 @@ keptOf residual s =
 -- a reading is good in startup, or where its squared residual is at most the limit
 unfoldable pub rejectedOf : Rejection → Vector → Bool → Float → ℤ → Feedback
 rejectedOf r residual startup limit timeout =
-    keptOf residual (updatedOf timeout (countsOf r) (not (startup || le (normSquaredOf residual) limit)))
+    keptOf (r .«ignored_count») residual (updatedOf timeout (countsOf r) (not (startup || le (normSquaredOf residual) limit)))
 
 -- the accelerometer against gravity
 unfoldable pub halfInclinationFeedbackOf : Rejection → Vector → Vector → Bool → Config → Feedback

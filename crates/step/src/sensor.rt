@@ -4,7 +4,7 @@ use super::Rejection;
 use rejection::Counts;
 use vector::Vector;
 ghost use mathlib.Core.Path.{_≡_};
-ghost use Rattle.step.specs.Sensor.{resetOf, residualOf, skippedOf, rejectedOf, halfInclinationFeedbackOf, halfHeadingFeedbackOf};
+ghost use Rattle.step.specs.Sensor.{resetOf, residualOf, longerOf, skippedOf, rejectedOf, halfInclinationFeedbackOf, halfHeadingFeedbackOf};
 ghost use Rattle.step.specs.Sensor.{countsOf, Ratio, finiteRejection};
 
 // A sensor's next rejection, and the feedback to apply, scaled by 0.5.
@@ -24,6 +24,16 @@ pub fn residual(sensor: Vector, reference: Vector) -> Vector
     cross.normalize()
 }
 
+// One more update that ignores the sensor; the largest count stays.
+fn longer(count: u32) -> u32
+    ensures { λ r. ⌜ r ≡ longerOf count ⌝ }
+{
+    if count < u32::MAX {
+        return count + 1;
+    }
+    count
+}
+
 impl Rejection {
     // The Rust's `Rejection::new`.
     pub fn reset(timeout: i32) -> Rejection
@@ -35,6 +45,7 @@ impl Rejection {
             recovery_trigger: 0,
             recovery_threshold: timeout,
             ignored: false,
+            ignored_count: 0,
         }
     }
 
@@ -43,6 +54,7 @@ impl Rejection {
         ensures { λ r. ⌜ r ≡ skippedOf self ⌝ }
     {
         let half_residual = self.half_residual;
+        let ignored_count = longer(self.ignored_count);
         let half_feedback = Vector::ZERO;
         Feedback {
             rejection: Rejection {
@@ -50,6 +62,7 @@ impl Rejection {
                 recovery_trigger: self.recovery_trigger,
                 recovery_threshold: self.recovery_threshold,
                 ignored: true,
+                ignored_count,
             },
             half_feedback,
         }
@@ -84,6 +97,7 @@ impl Rejection {
                     recovery_trigger: counts.trigger,
                     recovery_threshold: counts.threshold,
                     ignored: false,
+                    ignored_count: 0,
                 },
                 half_feedback: half_residual,
             };
@@ -95,6 +109,7 @@ impl Rejection {
                 recovery_trigger: counts.trigger,
                 recovery_threshold: counts.threshold,
                 ignored: true,
+                ignored_count: longer(self.ignored_count),
             },
             half_feedback,
         }
