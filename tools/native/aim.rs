@@ -1,7 +1,12 @@
 //! What the calls of a native run are: the scripts' own modes, the hardest cases more often, and limits that no angle gives.
 
 use crate::generate::{Script, bits};
+use crate::machine::gives;
+use crate::record::record;
 use crate::state::{ACCELERATION, MAGNETIC};
+
+/// No call of a script: the counts of ignored updates are set on both sides.
+pub const SET_COUNTS: u32 = 0x200;
 
 impl Script<'_> {
     /// Some hundred updates under settings of their own.
@@ -16,9 +21,9 @@ impl Script<'_> {
     }
 
     /// At a limit, at the overrange product, at a right angle, T below a trigger, at an end of what may be set or of what an update
-    /// leaves, and one step beside each; a knock and what follows.
+    /// leaves, and one step beside each; a knock or a spell and what follows.
     fn hard(&mut self) {
-        match self.random.below(11) {
+        match self.random.below(13) {
             0 | 1 => self.equal_limit(ACCELERATION),
             2 | 3 => self.equal_limit(MAGNETIC),
             4 => self.dot_zero(),
@@ -27,6 +32,8 @@ impl Script<'_> {
             7 => self.strange_quaternion(),
             8 => self.vanish(),
             9 => self.knock(),
+            10 => self.spell(),
+            11 => self.endless(),
             _ => self.over(),
         }
     }
@@ -38,6 +45,19 @@ impl Script<'_> {
         self.put(0x81, &s);
         for _ in 0..8 {
             self.overrange();
+        }
+    }
+
+    /// A spell whose counts are so long as no calls make them, about the largest and about the ends of smaller types.
+    fn endless(&mut self) {
+        self.fall_deaf(1, 1);
+        for _ in 0..4 {
+            let r = &mut self.random;
+            let end = r.pick(&[u32::MAX, u32::MAX, u32::MAX, 0x8000_0000, 0x100_0000, 0x1_0000, 0x100]);
+            // A count of 0 stays, for then the Rust has no mark.
+            self.machine.ignored = self.machine.ignored.map(|count| if count == 0 { 0 } else { end - r.below(5) as u32 });
+            (self.out)(&record(SET_COUNTS, &[]), &gives([]), &self.machine);
+            self.go_on_any();
         }
     }
 

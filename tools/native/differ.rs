@@ -1,9 +1,11 @@
 //! Every call on both sides: the answers, the whole states after it, and one call that reads them, must be the same words.
 
+use crate::aim::SET_COUNTS;
+use crate::axes::over;
 use crate::closed;
 use crate::machine::{Answer, Machine, Side, side};
 use crate::port::{self, Port};
-use crate::record::{QUIET, Record, to_text};
+use crate::record::{QUIET, READS, Record, to_text};
 use crate::rust;
 use crate::tally::Tally;
 use crate::words::of_v;
@@ -23,11 +25,17 @@ pub struct Differ {
     /// The states before the next call.
     ahrs: Option<[u32; 37]>,
     axes: u32,
+    ignored: [u32; 2],
     bias: [u32; 10],
 }
 
 impl Differ {
     pub fn call(&mut self, r: &Record, answer: &Answer, machine: &Machine) {
+        if r[0] == SET_COUNTS {
+            self.port.set_counts(machine.ignored);
+            self.ignored = machine.ignored;
+            return;
+        }
         let ours = self.port.call(r);
         same_answer("the answer", r, answer, &ours);
         match side(r[0] & !QUIET) {
@@ -46,7 +54,10 @@ impl Differ {
         if let (0x86, Some(before)) = (r[0], self.ahrs) {
             self.tally.update(r, number, &before, &after);
             self.tally.axes(self.axes, machine.axes);
-            let code = 0x87 + (self.tally.updates % 9) as u32;
+            if number == 0 {
+                self.tally.counts(over(&r[1..4], &before), self.ignored, machine.ignored);
+            }
+            let code = READS[self.tally.updates as usize % READS.len()];
             same_answer("what is read after it", r, &machine.read(theirs, code), &port::read(ours, code));
             self.tally.reads += 1;
             if self.tally.updates % 5003 == 0 {
@@ -57,7 +68,7 @@ impl Differ {
             self.tally.change(r, number, self.ahrs.as_ref().unwrap_or(&after));
         }
         self.ahrs = Some(after);
-        self.axes = machine.axes;
+        (self.axes, self.ignored) = (machine.axes, machine.ignored);
     }
 
     fn estimator(&mut self, r: &Record, number: u32, machine: &Machine) {
@@ -89,12 +100,14 @@ impl Differ {
     }
 }
 
-/// Holds the whole state of the filter to the port's, with the axes that went over behind it; the words of the state.
+/// Holds the whole state of the filter to the port's, with the axes that went over and the counts of ignored updates behind it; the
+/// words of the state.
 pub fn same_filter(what: &str, call: impl Fn() -> String, machine: &Machine, filter: &Ahrs) -> [u32; 37] {
     let (theirs, ours) = (machine.ahrs_words(), port::of_ahrs(filter));
     let [over, named] = [machine.axes, port::of_axes(filter.overrange_recovery)];
-    if theirs != ours || over != named {
-        differs(what, &call(), &[&theirs[..], &[over]].concat(), &[&ours[..], &[named]].concat());
+    let [counted, counts] = [machine.ignored, port::of_counts(filter)];
+    if theirs != ours || over != named || counted != counts {
+        differs(what, &call(), &[&theirs[..], &[over], &counted].concat(), &[&ours[..], &[named], &counts].concat());
     }
     theirs
 }

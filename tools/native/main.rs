@@ -19,6 +19,8 @@ mod filter;
 mod generate;
 #[path = "../oracle/geometry.rs"]
 mod geometry;
+#[path = "../oracle/ignored.rs"]
+mod ignored;
 #[path = "../oracle/knock.rs"]
 mod knock;
 #[path = "../oracle/log.rs"]
@@ -44,6 +46,8 @@ mod record;
 mod recording;
 #[path = "opened.rs"]
 mod rust;
+#[path = "../oracle/spell.rs"]
+mod spell;
 #[path = "../oracle/state.rs"]
 mod state;
 mod tally;

@@ -5,7 +5,7 @@ use crate::offset_port;
 use crate::plain_port::{arithmetic, mountings};
 use crate::record::{QUIET, Record};
 use crate::words::{bits, f};
-use gateweave::ahrs::read::{Flags, FlagsRead, QuaternionRead, SettingsRead, StatesRead, VectorRead};
+use gateweave::ahrs::read::{Flags, FlagsRead, IgnoredRead, QuaternionRead, SettingsRead, StatesRead, VectorRead};
 use gateweave::ahrs::{self, Ahrs, Axes, Settings};
 use gateweave::answer::Answer as Said;
 use gateweave::bias::reads::{ActiveRead, OffsetRead, SettingsRead as BiasSettingsRead};
@@ -80,6 +80,11 @@ pub fn of_axes(a: Axes) -> u32 {
     u32::from(a.x) + 2 * u32::from(a.y) + 4 * u32::from(a.z)
 }
 
+/// How often in a row each sensor was ignored.
+pub fn of_counts(t: &Ahrs) -> [u32; 2] {
+    [t.acceleration.ignored_count, t.magnetic.ignored_count]
+}
+
 pub fn of_ahrs(t: &Ahrs) -> [u32; 37] {
     let c = &t.config;
     let mut words = [0; 37];
@@ -117,6 +122,12 @@ impl Port {
             0x60..=0x6F => self.bias(code, a),
             _ => self.ahrs(code, a),
         }
+    }
+
+    /// Sets the counts of ignored updates, which no call does.
+    pub fn set_counts(&mut self, [acceleration, magnetic]: [u32; 2]) {
+        let state = self.ahrs.as_mut().expect("the script starts no filter");
+        (state.acceleration.ignored_count, state.magnetic.ignored_count) = (acceleration, magnetic);
     }
 
     fn is_lent(&mut self) -> bool {
@@ -229,6 +240,10 @@ pub fn read(state: Ahrs, code: u32) -> Answer {
             SettingsRead::Refused(n) => numbered(n),
         },
         0x8F => flags(|s| vec![of_axes(s.overrange_recovery)]),
+        0x92 => match state.ignored_counts() {
+            IgnoredRead::Read(s) => gives([s.accelerometer, s.magnetometer]),
+            IgnoredRead::Refused(n) => numbered(n),
+        },
         _ => refused(1),
     }
 }

@@ -47,6 +47,12 @@ tally! {
     limit "updates with a squared residual at its limit",
     beside_limit "updates with one a step beside it",
     ignored "updates that ignore a sensor",
+    longer "updates that make a count of ignored ones longer",
+    hundred "updates that make one longer than 100",
+    most "updates at the largest count",
+    used "updates with which a count is gone, by a used reading",
+    used_over "updates with which a count is gone, over range",
+    anew "updates with which a count begins anew at 1, over range",
     recovering "updates in recovery",
     above "updates with a trigger above T",
     zero_timeout "updates with T = 0",
@@ -160,6 +166,21 @@ impl Tally {
     pub fn axes(&mut self, was: u32, is: u32) {
         self.replaced += u64::from(was != 0 && is != 0 && is != was);
         self.ended += u64::from(was != 0 && is == 0);
+    }
+
+    /// The counts of ignored updates, before an accepted one and after it.
+    pub fn counts(&mut self, over: u32, was: [u32; 2], is: [u32; 2]) {
+        let any = |holds: fn(u32, u32) -> bool| u64::from(holds(was[0], is[0]) || holds(was[1], is[1]));
+        let gone = any(|was, is| was > 0 && is == 0);
+        self.longer += any(|was, is| is > was);
+        self.hundred += any(|was, is| is > was && is > 100);
+        self.most += any(|was, is| was == u32::MAX && is == u32::MAX);
+        if over == 0 {
+            self.used += gone;
+        } else {
+            self.used_over += gone;
+            self.anew += any(|was, is| was > 0 && is == 1);
+        }
     }
 
     fn sensors(&mut self, before: &[u32; 37], after: &[u32; 37]) {

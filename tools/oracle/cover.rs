@@ -12,8 +12,17 @@ use fusion_ahrs::Vector;
 use std::collections::BTreeMap;
 use std::io::{self, Write};
 
+/// The sensors: what is said of each, the places of its words in a state and of its limit, and that of its reading in an update.
+const SENSORS: [(&str, usize, usize, usize); 2] =
+    [("acceleration", ACCELERATION, LIMITS_USED, 4), ("magnetic", MAGNETIC, LIMITS_USED + 1, 7)];
+
 /// The sets of axes by their words.
 const SETS: [&str; 8] = ["none", "x", "y", "x y", "z", "x z", "y z", "x y z"];
+
+/// Whether a sensor recovers in a state.
+fn recovers(w: &[u32; 37], sensor: usize) -> bool {
+    w[sensor + 3] as i32 > w[sensor + 4] as i32
+}
 
 #[derive(Default)]
 pub struct Cover {
@@ -30,7 +39,7 @@ impl Cover {
         let code = r[0] & !QUIET;
         let before = self.machine.ahrs.is_some().then(|| self.machine.ahrs_words());
         let bias = self.machine.bias.map(|b| state::of_bias(&b));
-        let axes = self.machine.axes;
+        let (axes, ignored) = (self.machine.axes, self.machine.ignored);
         let number = self.machine.call(r).number;
         self.count(&format!("{} {number}", call(code).unwrap().1), true);
         self.zeros(r, number);
@@ -38,12 +47,16 @@ impl Cover {
         if let Some(before) = &before {
             self.orientations(r, number, before);
             self.axes(r, number, before, axes);
+            self.ignored(r, number, ignored);
         }
         if number != 0 {
             return;
         }
         match (code, before, bias) {
-            (0x86, Some(before), _) => self.update(r, &before),
+            (0x86, Some(before), _) => {
+                self.update(r, &before);
+                self.counted(r, &before, ignored);
+            }
             (0x62, _, Some(before)) => {
                 let after = state::of_bias(self.machine.bias.as_ref().unwrap());
                 self.count("> bias timer cleared", before[6] > 0 && after[6] == 0);
@@ -140,6 +153,51 @@ impl Cover {
         self.count("> axes over where startup ends at once", over != 0 && is == 0);
     }
 
+    /// The counts of ignored updates: which are shown, what leaves them, and with what they are gone.
+    fn ignored(&mut self, r: &Record, number: u32, was: [u32; 2]) {
+        let code = r[0] & !QUIET;
+        for ((name, _, _, place), was) in SENSORS.into_iter().zip(was) {
+            let (up, zero) = (was != 0, is_zero(&r[place..place + 3]));
+            let (what, here) = match (code, number) {
+                (0x80, 0) => ("gone with a start", up),
+                (0x81, 0) => ("left by new settings", up),
+                (0x82, 0) => ("left by a new period", up),
+                (0x83, 0) => ("gone with a restart", up),
+                (0x84, 0) => ("left by a skipped startup", up),
+                (0x85, 0) => ("left by an orientation", up),
+                (0x86, 5) => ("left by a skipped reading, refused 5", up && zero),
+                (0x86, 7) => ("left by a skipped reading, refused 7", up && zero),
+                (0x92, _) => (["shown: 0", "shown: 1", "shown: more"][was.min(2) as usize], true),
+                _ => continue,
+            };
+            self.count(&format!("> {name} count {what}"), here);
+        }
+        if code == 0x92 {
+            self.count("> acceleration count shown above the other", was[0] > was[1] && was[1] > 0);
+            self.count("> magnetic count shown above the other", was[1] > was[0] && was[0] > 0);
+        }
+    }
+
+    /// An accepted update, by what it makes of the counts.
+    fn counted(&mut self, r: &Record, before: &[u32; 37], was: [u32; 2]) {
+        let (after, over) = (self.machine.ahrs_words(), over(&r[1..4], before) != 0);
+        for (i, (name, s, _, place)) in SENSORS.into_iter().enumerate() {
+            let (was, is, zero) = (was[i], self.machine.ignored[i], is_zero(&r[place..place + 3]));
+            let (begun, anew, gone) = (was == 0 && is == 1, over && was > 0 && is == 1, was > 0 && is == 0);
+            let begins = !recovers(before, s) && recovers(&after, s);
+            let mut at = |what: &str, here: bool| self.count(&format!("> {name} count {what}"), here);
+            at("begun by a skipped reading", begun && zero);
+            at("begun by one over its limit", begun && !zero);
+            at("above 10 by a skipped reading", is > 10 && zero);
+            at("above 10 by one over its limit", is > 10 && !zero);
+            at("gone with a used reading", gone && !over && !begins);
+            at("gone as recovery begins", gone && begins);
+            at("gone with an overrange", gone && over);
+            at("begun anew by an overrange, skipped", anew && zero);
+            at("begun anew by an overrange, over its limit", anew && !zero);
+        }
+    }
+
     fn update(&mut self, r: &Record, before: &[u32; 37]) {
         let after = self.machine.ahrs_words();
         let startup = after[22] == 1;
@@ -147,22 +205,20 @@ impl Cover {
         self.count("> in startup", startup);
         self.count("> T = 0", after[TIMEOUT] == 0);
         self.count("> T = 2^31 - 1", after[TIMEOUT] == 0x7FFF_FFFF);
-        for (name, s, limit) in [("acceleration", ACCELERATION, LIMITS_USED), ("magnetic", MAGNETIC, LIMITS_USED + 1)] {
-            let given = &r[if s == ACCELERATION { 4..7 } else { 7..10 }];
-            if given.iter().all(|w| f(*w) == 0.0) {
+        for (name, s, limit, place) in SENSORS {
+            if is_zero(&r[place..place + 3]) {
                 self.count(&format!("> {name} skipped"), true);
                 continue;
             }
             let residual = Vector::new(f(after[s]), f(after[s + 1]), f(after[s + 2]));
             let square = residual.norm_squared();
-            let (trigger, threshold) = (|w: &[u32; 37]| w[s + 3] as i32, |w: &[u32; 37]| w[s + 4] as i32);
-            let recovers = |w: &[u32; 37]| trigger(w) > threshold(w);
+            let trigger = |w: &[u32; 37]| w[s + 3] as i32;
             let mut at = |what: &str, here: bool| self.count(&format!("> {name} {what}"), here);
             at("equal to its limit", !startup && square == f(after[limit]));
             at("over its limit, ignored", after[s + 5] == 1);
             at("over its limit, used in recovery", !startup && square > f(after[limit]) && after[s + 5] == 0);
-            at("recovery begins", !recovers(before) && recovers(&after));
-            at("recovery ends", recovers(before) && !recovers(&after));
+            at("recovery begins", !recovers(before, s) && recovers(&after, s));
+            at("recovery ends", recovers(before, s) && !recovers(&after, s));
             at("trigger above T before", trigger(before) > before[TIMEOUT] as i32);
             at("trigger moved", trigger(before) != trigger(&after));
             at("residual zero", residual.is_zero());

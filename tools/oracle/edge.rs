@@ -20,7 +20,7 @@ impl Script<'_> {
     }
 
     fn case(&mut self) {
-        match self.random.below(32) {
+        match self.random.below(33) {
             0 => self.equal_limit(ACCELERATION),
             1 => self.equal_limit(MAGNETIC),
             2 | 3 => self.dot_zero(),
@@ -44,6 +44,7 @@ impl Script<'_> {
             22 => self.vanish(),
             23 => self.heavy(),
             24 => self.knock(),
+            25 => self.spell(),
             _ => self.row(),
         }
     }

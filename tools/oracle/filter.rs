@@ -1,6 +1,7 @@
 //! The calls of the filter. The settings hold angles in the Rust and squared limits in the port: a script gives both.
 
 use crate::axes;
+use crate::ignored;
 use crate::machine::{Answer, Machine, gives, refused};
 use crate::state;
 use crate::words::{all_finite, bits, f, of_q, of_v, q, v};
@@ -76,16 +77,14 @@ impl Machine {
                 let s = ahrs.internal_states();
                 reads(&[s.acceleration_recovery_trigger, s.magnetic_recovery_trigger].map(bits))
             }
-            0x8D => {
-                let s = ahrs.internal_states();
-                gives([s.accelerometer_ignored, s.magnetometer_ignored].map(u32::from))
-            }
+            0x8D => gives(ignored::marks(ahrs).map(u32::from)),
             0x8E => {
                 let s = ahrs.settings();
                 let [w0, w2, w3, w6] = [s.sample_rate, s.gain, s.gyroscope_range, s.rejection_timeout].map(bits);
                 gives([w0, s.convention as u32, w2, w3, self.limits[0], self.limits[1], w6])
             }
             0x8F => gives([self.axes]),
+            0x92 => gives(self.ignored),
             _ => panic!("the script has a call {code:02X}"),
         }
     }
@@ -121,15 +120,18 @@ impl Machine {
         answer
     }
 
-    /// Keeps the state after a call, where nothing refuses it, and the axes that went over: their yes or no has to be the flag.
+    /// Keeps the state after a call, where nothing refuses it, with the axes that went over and the counts of ignored updates: their
+    /// yes or no has to be the flag and the marks.
     fn keep_ahrs(&mut self, code: u32, next: Ahrs, over: u32, answer: impl Into<Vec<u32>>) -> Answer {
         let answer = answer.into();
         if !state::ahrs_finite(&state::of_ahrs(&next)) || !all_finite(&answer) {
             return refused(7);
         }
-        let flags = next.flags();
+        let (flags, marks) = (next.flags(), ignored::marks(&next));
         self.axes = axes::after(code, self.axes, over, flags.startup);
         assert_eq!(self.axes != 0, flags.overrange_recovery, "the axes that went over after a call {code:02X}");
+        self.ignored = ignored::after(code, self.ignored, over, marks);
+        assert_eq!(self.ignored.map(|count| count != 0), marks, "the counts of ignored updates after a call {code:02X}");
         self.ahrs = Some(next);
         gives(answer)
     }

@@ -4,7 +4,7 @@
 use crate::machine::{Answer, Machine};
 use crate::orientation::fit;
 use crate::random::Random;
-use crate::record::{CALLS, QUIET, Record, record};
+use crate::record::{CALLS, QUIET, READS, Record, record};
 use crate::state;
 use crate::words::packed;
 
@@ -105,9 +105,10 @@ impl Script<'_> {
         self.records();
         self.orientations();
         self.knocks();
+        self.spells();
         self.refusals();
         let parts: [(u64, fn(&mut Self)); 5] =
-            [(40, Self::edge), (58, Self::math), (68, Self::mounting), (88, Self::bias), (93, Self::fuzz)];
+            [(46, Self::edge), (60, Self::math), (68, Self::mounting), (88, Self::bias), (93, Self::fuzz)];
         for (percent, calls) in parts {
             while self.left > all - all * percent / 100 {
                 calls(self);
@@ -367,7 +368,7 @@ impl Script<'_> {
     }
 
     pub fn readings(&mut self) {
-        let code = 0x87 + self.random.below(9) as u32;
+        let code = self.random.pick(&READS);
         self.put(code, &[]);
     }
 

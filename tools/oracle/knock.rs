@@ -29,6 +29,12 @@ impl Script<'_> {
         self.machine.ahrs.as_ref().map_or(0, |ahrs| state::of_ahrs(ahrs)[PRODUCT] & !MINUS_ZERO)
     }
 
+    /// Rates that are over about some axes, where overrange is on.
+    pub fn rates_over(&mut self) -> [u32; 3] {
+        let (product, set) = (self.product(), 1 + self.random.below(7) as u32);
+        gyroscope(&mut self.random, product, set)
+    }
+
     /// An update that is over about these axes, where overrange is on.
     fn strike(&mut self, set: u32) {
         let mut u = self.common_update();
@@ -125,10 +131,8 @@ impl Script<'_> {
     /// An update that is over, and refused for a float that is not finite.
     fn strike_refused(&mut self) {
         let mut u = self.common_update();
-        let product = self.product();
+        u[..3].copy_from_slice(&self.rates_over());
         let r = &mut self.random;
-        let set = 1 + r.below(7) as u32;
-        u[..3].copy_from_slice(&gyroscope(r, product, set));
         u[3 + r.below(6) as usize] = r.not_finite();
         self.put(0x86, &u);
     }

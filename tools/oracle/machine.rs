@@ -1,6 +1,7 @@
 //! One call after another on the Rust, with the refusal table laid over it: a call is tried on a copy of the state, and the
 //! copy is kept only where nothing refuses it.
 
+use crate::ignored;
 use crate::plain::{arithmetic, mountings};
 use crate::record::{QUIET, Record};
 use crate::state;
@@ -36,12 +37,14 @@ pub struct Machine {
     pub limits: [u32; 2],
     /// The axes that went over; the Rust keeps whether some did.
     pub axes: u32,
+    /// For how many updates in a row each sensor was ignored; the Rust keeps whether the last one ignored it.
+    pub ignored: [u32; 2],
     pub bias: Option<Bias>,
 }
 
 /// Holds what was read from the Debug text to what the public functions say.
 fn agrees(ahrs: &Ahrs, w: &[u32; 37]) {
-    let (flags, inside) = (ahrs.flags(), ahrs.internal_states());
+    let flags = ahrs.flags();
     let recovers = |s: usize| w[s + 3] as i32 > w[s + 4] as i32;
     assert_eq!(w[state::QUATERNION..state::QUATERNION + 4], of_q(ahrs.quaternion()));
     assert_eq!([w[22], w[24]], [flags.startup, flags.overrange_recovery].map(u32::from));
@@ -49,13 +52,13 @@ fn agrees(ahrs: &Ahrs, w: &[u32; 37]) {
         [recovers(state::ACCELERATION), recovers(state::MAGNETIC)],
         [flags.acceleration_recovery, flags.magnetic_recovery]
     );
-    assert_eq!([w[30], w[36]], [inside.accelerometer_ignored, inside.magnetometer_ignored].map(u32::from));
+    assert_eq!([w[30], w[36]], ignored::marks(ahrs).map(u32::from));
 }
 
 pub fn side(code: u32) -> Side {
     match code {
         0x60..=0x6F => Side::Bias,
-        0x80..=0x8F => Side::Ahrs,
+        0x80..=0x8F | 0x92 => Side::Ahrs,
         _ => Side::None,
     }
 }
@@ -102,7 +105,7 @@ impl Machine {
             0x10..=0x4F => gives(arithmetic(code, a)),
             0x50..=0x5F => mountings(code, a),
             0x60..=0x6F => self.bias(code, a),
-            0x80..=0x8F => self.ahrs(code, a),
+            0x80..=0x8F | 0x92 => self.ahrs(code, a),
             _ => panic!("the script has a call {code:02X}"),
         }
     }

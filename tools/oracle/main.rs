@@ -8,6 +8,7 @@ mod estimator;
 mod filter;
 mod generate;
 mod geometry;
+mod ignored;
 mod knock;
 mod log;
 mod machine;
@@ -19,6 +20,7 @@ mod record;
 mod recording;
 #[path = "closed.rs"]
 mod rust;
+mod spell;
 mod state;
 mod walk;
 mod words;

@@ -89,7 +89,11 @@ pub const CALLS: &[(u32, &str, &[Kind])] = &[
     (0x8D, "ahrs.ignored", &[]),
     (0x8E, "ahrs.settings", &[]),
     (0x8F, "ahrs.axes", &[]),
+    (0x92, "ahrs.ignored_counts", &[]),
 ];
+
+/// The calls that only read the filter.
+pub const READS: [u32; 10] = [0x87, 0x88, 0x89, 0x8A, 0x8B, 0x8C, 0x8D, 0x8E, 0x8F, 0x92];
 
 pub fn call(code: u32) -> Option<&'static (u32, &'static str, &'static [Kind])> {
     CALLS.iter().find(|c| c.0 == code)

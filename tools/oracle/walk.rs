@@ -13,6 +13,8 @@ pub struct Walk {
     disturbed: u64,
     knocked: u64,
     lost: u64,
+    /// The places of the sensors that are lost then.
+    deaf: (usize, usize),
 }
 
 /// A direction that stays while the sensor turns by `w` radians.
@@ -26,7 +28,7 @@ impl Walk {
     pub fn begin(rate: f64, convention: u32) -> Walk {
         let flip = if convention == 2 { -1.0 } else { 1.0 };
         let (up, north) = ([0.0, 0.0, 1.0], [1.0, 0.0, 0.0]);
-        Walk { rate, flip, up, north, turn: [0.0; 3], disturbed: 0, knocked: 0, lost: 0 }
+        Walk { rate, flip, up, north, turn: [0.0; 3], disturbed: 0, knocked: 0, lost: 0, deaf: (3, 9) }
     }
 
     pub fn step(&mut self, r: &mut Random) {
@@ -36,6 +38,9 @@ impl Walk {
         for (trouble, seldom, most) in [(&mut self.disturbed, 150, 300), (&mut self.knocked, 120, 60), (&mut self.lost, 200, 30)]
         {
             *trouble = if r.one_in(seldom) { r.below(most) } else { trouble.saturating_sub(1) };
+        }
+        if self.lost == 0 {
+            self.deaf = r.pick(&[(3, 6), (6, 9), (3, 9)]);
         }
         let w = self.turn.map(|t| (t / self.rate).to_radians());
         self.up = turned(self.up, w);
@@ -55,8 +60,7 @@ impl Walk {
             args[6 + i] = bits(25.0 * self.north[i] - 40.0 * up + r.within(pull));
         }
         if self.lost > 0 {
-            let from = if self.lost % 2 == 0 { 3 } else { 6 };
-            args[from..from + 3].fill(0);
+            args[self.deaf.0..self.deaf.1].fill(0);
         }
         args
     }

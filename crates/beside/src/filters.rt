@@ -1,4 +1,4 @@
-// The calls of the filter: 80 to 8F.
+// The calls of the filter: 80 to 8F, and 92.
 use super::record::choice_at;
 use super::record::float_at;
 use super::record::quaternion_at;
@@ -14,6 +14,7 @@ use ahrs::Reading;
 use ahrs::Settings;
 use ahrs::Started;
 use ahrs::read::FlagsRead;
+use ahrs::read::IgnoredRead;
 use ahrs::read::QuaternionRead;
 use ahrs::read::SettingsRead;
 use ahrs::read::StatesRead;
@@ -146,6 +147,18 @@ fn marks_of(read: StatesRead) -> Said {
     }
 }
 
+// The accelerometer's and the magnetometer's.
+fn counts_of(read: IgnoredRead) -> Said {
+    match read {
+        IgnoredRead::Read(counts) => said::words(
+            Words::none()
+                .word(counts.accelerometer)
+                .word(counts.magnetometer),
+        ),
+        IgnoredRead::Refused(number) => said::number(number),
+    }
+}
+
 fn settings_of(read: SettingsRead) -> Said {
     match read {
         SettingsRead::Read(settings) => said::words(settings_words(settings)),
@@ -172,6 +185,7 @@ fn said_of(ahrs: Ahrs, call: u32) -> Said {
         0x8D => marks_of(ahrs.internal_states()),
         0x8E => settings_of(ahrs.settings()),
         0x8F => axes_of(ahrs.flags()),
+        0x92 => counts_of(ahrs.ignored_counts()),
         _ => said::number(1),
     }
 }
