@@ -142,75 +142,51 @@ of-accepted-update = (
 abbrev knocked : Ahrs
 knocked = state 0 (quaternion one nought nought nought) true (axes true false false)
 
--- a state's set as a number: 1 for x, 2 for y, 4 for z, added up
+-- a state's set of axes as a number: 1 for x, 2 for y, 4 for z, added up
 abbrev axes-in : Ahrs → ℕ
 axes-in s = let over = s .«overrange_recovery» in cond (over .x) 1 0 + cond (over .y) 2 0 + cond (over .z) 4 0
 
--- z goes over now: whatever is answered, any set but z alone, be it joined with x, x kept or none
+-- what it has beyond the Rust's, as one: thousands for the axes, hundreds for the accelerometer's count, and the magnetometer's
+abbrev shown : Ahrs → ℕ
+shown s = 1000 * axes-in s + 100 * s .acceleration .«ignored_count» + s .magnetic .«ignored_count»
+
+-- z goes over now, and both sensors are skipped: whatever is answered, any set but z alone, be it joined with x, x kept or none; any counts but 1 each, be
+-- they cleared after it or not at all
 pub of-knock
-    : (n : Ahrs) (r : Answer) → (axes-in n ≡ 4 → ⊥) → Updates knocked (vector nought nought two) still still (record { state = n; answer = r }) → ⊥
-unfolding refusalOf finiteState finiteSettings finiteConfig finiteQuaternion finiteVector finiteRejection
-    updatedOf overrangeOf overOf startupGainOf halfFeedbackOf halfGravityOf halfWestOf halfInclinationFeedbackOf halfHeadingFeedbackOf resetOf skippedOf
-    rateOf integratedOf normalizeOf normOf normSquaredOf sqrtOf rootBitsOf squaredOf exponentOf significandOf nearestRootOf floorRoot leadingZeros
-    fabsfOf eq lt add sub mul div neg sum round units odd ofBits toBits
-of-knock n r other h = other (ap axes-in (h .state))
-
--- any set left by a restart or by startup skipped; any but the one before by settings, a period or a quaternion
-pub of-knocked
-    : ((n : Ahrs) → (axes-in n ≡ 0 → ⊥) → Restarts knocked (record { state = n; number = 0 }) → ⊥)
-    × ((n : Ahrs) → (axes-in n ≡ 0 → ⊥) → SkipsStartup knocked (record { state = n; number = 0 }) → ⊥)
-    × ((n : Ahrs) → (axes-in n ≡ 1 → ⊥) → SetsSettings knocked (at-rate one 0) (record { state = n; number = 0 }) → ⊥)
-    × ((n : Ahrs) → (axes-in n ≡ 1 → ⊥) → SetsSamplePeriod knocked two (record { state = n; number = 0 }) → ⊥)
-    × ((n : Ahrs) → (axes-in n ≡ 1 → ⊥) → SetsQuaternion knocked (quaternion nought one nought nought) (record { state = n; number = 0 }) → ⊥)
-unfolding refusalOf finiteState finiteSettings finiteConfig finiteQuaternion finiteVector finiteRejection freshOf resetOf skippedStartup
-    derivedOf limitOf withSettings withThreshold withSamplePeriod withQuaternion settable normSquaredOf
-    eq ne lt le add sub mul div neg sum round units odd ofBits
-of-knocked = (
-  λ n other h. other (ap axes-in (h .holds)),
-  λ n other h. other (ap axes-in (h .holds)),
-  λ n other h. other (ap axes-in (h .holds)),
-  λ n other h. other (ap axes-in (h .holds)),
-  λ n other h. other (ap axes-in (h .holds)),
-)
-
--- a state's two counts as a number: the accelerometer's hundreds, and the magnetometer's
-abbrev counts-in : Ahrs → ℕ
-counts-in s = 100 * s .acceleration .«ignored_count» + s .magnetic .«ignored_count»
-
--- both sensors skipped: any counts but one more each, be they left or swapped; in an overrange any but 1 each, be they cleared after it or not at all; and any
--- but those before where the update is refused
-pub of-ignored
-    : ((n : Ahrs) (r : Answer) → (counts-in n ≡ 306 → ⊥) → Updates over still still still (record { state = n; answer = r }) → ⊥)
-    × ((n : Ahrs) (r : Answer) → (counts-in n ≡ 101 → ⊥)
-    → Updates knocked (vector nought nought two) still still (record { state = n; answer = r }) → ⊥)
-    × ((n : Ahrs) (r : Answer) → (counts-in n ≡ 205 → ⊥) → Updates (at-start 3) still still still (record { state = n; answer = r }) → ⊥)
+    : (n : Ahrs) (r : Answer) → (shown n ≡ 4101 → ⊥) → Updates knocked (vector nought nought two) still still (record { state = n; answer = r }) → ⊥
 unfolding refusalOf finiteState finiteSettings finiteConfig finiteQuaternion finiteVector finiteRejection
     updatedOf overrangeOf overOf startupGainOf halfFeedbackOf halfGravityOf halfWestOf halfInclinationFeedbackOf halfHeadingFeedbackOf resetOf skippedOf
     longerOf rateOf integratedOf normalizeOf normOf normSquaredOf sqrtOf rootBitsOf squaredOf exponentOf significandOf nearestRootOf floorRoot leadingZeros
     fabsfOf eq lt add sub mul div neg sum round units odd ofBits toBits
-of-ignored = (
-  λ n r other h. other (ap counts-in (h .state)),
-  λ n r other h. other (ap counts-in (h .state)),
-  λ n r other h. other (ap counts-in (h .state)),
-)
+of-knock n r other h = other (ap shown (h .state))
 
--- any counts left by a restart; any but those before by startup skipped, settings, a period or a quaternion
-pub of-counted
-    : ((n : Ahrs) → (counts-in n ≡ 0 → ⊥) → Restarts knocked (record { state = n; number = 0 }) → ⊥)
-    × ((n : Ahrs) → (counts-in n ≡ 205 → ⊥) → SkipsStartup knocked (record { state = n; number = 0 }) → ⊥)
-    × ((n : Ahrs) → (counts-in n ≡ 205 → ⊥) → SetsSettings knocked (at-rate one 0) (record { state = n; number = 0 }) → ⊥)
-    × ((n : Ahrs) → (counts-in n ≡ 205 → ⊥) → SetsSamplePeriod knocked two (record { state = n; number = 0 }) → ⊥)
-    × ((n : Ahrs) → (counts-in n ≡ 205 → ⊥) → SetsQuaternion knocked (quaternion nought one nought nought) (record { state = n; number = 0 }) → ⊥)
+-- any set or counts left by a restart; any set left by startup skipped, or other counts than before; any other of both by settings, a period or a quaternion
+pub of-knocked
+    : ((n : Ahrs) → (shown n ≡ 0 → ⊥) → Restarts knocked (record { state = n; number = 0 }) → ⊥)
+    × ((n : Ahrs) → (shown n ≡ 205 → ⊥) → SkipsStartup knocked (record { state = n; number = 0 }) → ⊥)
+    × ((n : Ahrs) → (shown n ≡ 1205 → ⊥) → SetsSettings knocked (at-rate one 0) (record { state = n; number = 0 }) → ⊥)
+    × ((n : Ahrs) → (shown n ≡ 1205 → ⊥) → SetsSamplePeriod knocked two (record { state = n; number = 0 }) → ⊥)
+    × ((n : Ahrs) → (shown n ≡ 1205 → ⊥) → SetsQuaternion knocked (quaternion nought one nought nought) (record { state = n; number = 0 }) → ⊥)
 unfolding refusalOf finiteState finiteSettings finiteConfig finiteQuaternion finiteVector finiteRejection freshOf resetOf skippedStartup
     derivedOf limitOf withSettings withThreshold withSamplePeriod withQuaternion settable normSquaredOf
     eq ne lt le add sub mul div neg sum round units odd ofBits
-of-counted = (
-  λ n other h. other (ap counts-in (h .holds)),
-  λ n other h. other (ap counts-in (h .holds)),
-  λ n other h. other (ap counts-in (h .holds)),
-  λ n other h. other (ap counts-in (h .holds)),
-  λ n other h. other (ap counts-in (h .holds)),
+of-knocked = (
+  λ n other h. other (ap shown (h .holds)),
+  λ n other h. other (ap shown (h .holds)),
+  λ n other h. other (ap shown (h .holds)),
+  λ n other h. other (ap shown (h .holds)),
+  λ n other h. other (ap shown (h .holds)),
 )
+
+-- both sensors skipped: any counts but one more each, be they left or swapped; and any but those before where the update is refused
+pub of-ignored
+    : ((n : Ahrs) (r : Answer) → (shown n ≡ 306 → ⊥) → Updates over still still still (record { state = n; answer = r }) → ⊥)
+    × ((n : Ahrs) (r : Answer) → (shown n ≡ 205 → ⊥) → Updates (at-start 3) still still still (record { state = n; answer = r }) → ⊥)
+unfolding refusalOf finiteState finiteSettings finiteConfig finiteQuaternion finiteVector finiteRejection
+    updatedOf overrangeOf overOf startupGainOf halfFeedbackOf halfGravityOf halfWestOf halfInclinationFeedbackOf halfHeadingFeedbackOf resetOf skippedOf
+    longerOf rateOf integratedOf normalizeOf normOf normSquaredOf sqrtOf rootBitsOf squaredOf exponentOf significandOf nearestRootOf floorRoot leadingZeros
+    fabsfOf eq lt add sub mul div neg sum round units odd ofBits toBits
+of-ignored = (λ n r other h. other (ap shown (h .state)), λ n r other h. other (ap shown (h .state)))
 
 -- a restart that keeps the triggers; one of a state that is refused
 pub of-restart
