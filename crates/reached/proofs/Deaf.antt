@@ -30,7 +30,7 @@ use Rattle.ahrs.specs.Filter.{softRestartedOf, overrangeOf, halfFeedbackOf}
 use Rattle.ahrs.specs.Calls.{updateChecks, stateChecks, changeChecks, periodChecks, quaternionChecks}
 use Rattle.reached.specs.Runs.{Call, update, restart, skip-startup, set-settings, set-sample-period, set-quaternion, outlineOf}
 use Rattle.reached.specs.Deaf.{Sensor, accelerometer, magnetometer, ofSensor, markOf, countOf, MarkTells}
-use Rattle.reached.specs.Deaf.{Effect, clears, updates, leaves, effectOf, effectsOf, endOf, sinceOf, inARow, usedOrNone}
+use Rattle.reached.specs.Deaf.{Effect, clears, updates, leaves, effectOf, effectsOf, reachedOf, sinceOf, inARow, usedOrNone}
 use Rattle.reached.specs.Deaf.{atMost, reachedCount, reachedSince, HowLong, countAfter, EachCall, Marked, StaysMarked}
 
 -- ---- one sensor
@@ -152,7 +152,7 @@ one-effect leaves before = refl
 
 along
     : (k : Sensor) (s : Ahrs) (cs : List Call) (before : List Effect) → countOf k s ≡ atMost largestCount (inARow (sinceOf before))
-    → countOf k (endOf s cs) ≡ atMost largestCount (inARow (sinceOf (effectsOf k s cs before)))
+    → countOf k (reachedOf s cs) ≡ atMost largestCount (inARow (sinceOf (effectsOf k s cs before)))
 along k s [] before h = h
 along k s (c ∷ cs) before h =
     along k (stepOf outlineOf s c .state) cs (effectOf k s c ∷ before)

@@ -67,10 +67,10 @@ abbrev pub effectsOf : Sensor → Ahrs → List Call → List Effect → List Ef
 effectsOf k s [] before = before
 effectsOf k s (c ∷ cs) before = effectsOf k (stepOf outlineOf s c .state) cs (effectOf k s c ∷ before)
 
--- the state at its end
-abbrev pub endOf : Ahrs → List Call → Ahrs
-endOf s [] = s
-endOf s (c ∷ cs) = endOf (stepOf outlineOf s c .state) cs
+-- the state that it reaches
+abbrev pub reachedOf : Ahrs → List Call → Ahrs
+reachedOf s [] = s
+reachedOf s (c ∷ cs) = reachedOf (stepOf outlineOf s c .state) cs
 
 -- whether each accepted update since the last clearing ignored the sensor, the latest first; one that went over is the first since
 abbrev pub sinceOf : List Effect → List Bool
@@ -98,7 +98,7 @@ atMost most n = cond (ltb n most) n most
 
 -- after a run from a fresh filter: the count, and the updates since the last clearing
 abbrev pub reachedCount : Sensor → Settings → List Call → ℕ
-reachedCount k t cs = countOf k (endOf (freshOf t (derivedOf t)) cs)
+reachedCount k t cs = countOf k (reachedOf (freshOf t (derivedOf t)) cs)
 
 abbrev pub reachedSince : Sensor → Settings → List Call → List Bool
 reachedSince k t cs = sinceOf (effectsOf k (freshOf t (derivedOf t)) cs [])
