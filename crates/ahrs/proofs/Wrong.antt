@@ -1,8 +1,9 @@
 -- Wrong answers that the promises refuse, two at least for each public call, each by evaluation. Assumes nothing.
-use Prim.Native.Nat.{ℕ, _+_, _*_}
+use Prim.Native.Nat.{ℕ, _+_}
 use native.Mathlib.Omega.{arith}
 use mathlib.Core.Path.{_≡_, ap, refl}
 use mathlib.Core.Bool.{Bool, true, false, cond}
+use mathlib.Core.List.{List, [], _∷_}
 use lib.IntN.{pos, negsuc}
 use lib.Signed.{mag}
 use lib.Count.{leadingZeros}
@@ -146,14 +147,14 @@ knocked = state 0 (quaternion one nought nought nought) true (axes true false fa
 abbrev axes-in : Ahrs → ℕ
 axes-in s = let over = s .«overrange_recovery» in cond (over .x) 1 0 + cond (over .y) 2 0 + cond (over .z) 4 0
 
--- what it has beyond the Rust's, as one: thousands for the axes, hundreds for the accelerometer's count, and the magnetometer's
-abbrev shown : Ahrs → ℕ
-shown s = 1000 * axes-in s + 100 * s .acceleration .«ignored_count» + s .magnetic .«ignored_count»
+-- what it has beyond the Rust's: the axes, the accelerometer's count and the magnetometer's
+abbrev shown : Ahrs → List ℕ
+shown s = axes-in s ∷ s .acceleration .«ignored_count» ∷ s .magnetic .«ignored_count» ∷ []
 
 -- z goes over now, and both sensors are skipped: whatever is answered, any set but z alone, be it joined with x, x kept or none; any counts but 1 each, be
 -- they cleared after it or not at all
 pub of-knock
-    : (n : Ahrs) (r : Answer) → (shown n ≡ 4101 → ⊥) → Updates knocked (vector nought nought two) still still (record { state = n; answer = r }) → ⊥
+    : (n : Ahrs) (r : Answer) → (shown n ≡ 4 ∷ 1 ∷ 1 ∷ [] → ⊥) → Updates knocked (vector nought nought two) still still (record { state = n; answer = r }) → ⊥
 unfolding refusalOf finiteState finiteSettings finiteConfig finiteQuaternion finiteVector finiteRejection
     updatedOf overrangeOf overOf startupGainOf halfFeedbackOf halfGravityOf halfWestOf halfInclinationFeedbackOf halfHeadingFeedbackOf resetOf skippedOf
     longerOf rateOf integratedOf normalizeOf normOf normSquaredOf sqrtOf rootBitsOf squaredOf exponentOf significandOf nearestRootOf floorRoot leadingZeros
@@ -162,11 +163,11 @@ of-knock n r other h = other (ap shown (h .state))
 
 -- any set or counts left by a restart; any set left by startup skipped, or other counts than before; any other of both by settings, a period or a quaternion
 pub of-knocked
-    : ((n : Ahrs) → (shown n ≡ 0 → ⊥) → Restarts knocked (record { state = n; number = 0 }) → ⊥)
-    × ((n : Ahrs) → (shown n ≡ 205 → ⊥) → SkipsStartup knocked (record { state = n; number = 0 }) → ⊥)
-    × ((n : Ahrs) → (shown n ≡ 1205 → ⊥) → SetsSettings knocked (at-rate one 0) (record { state = n; number = 0 }) → ⊥)
-    × ((n : Ahrs) → (shown n ≡ 1205 → ⊥) → SetsSamplePeriod knocked two (record { state = n; number = 0 }) → ⊥)
-    × ((n : Ahrs) → (shown n ≡ 1205 → ⊥) → SetsQuaternion knocked (quaternion nought one nought nought) (record { state = n; number = 0 }) → ⊥)
+    : ((n : Ahrs) → (shown n ≡ 0 ∷ 0 ∷ 0 ∷ [] → ⊥) → Restarts knocked (record { state = n; number = 0 }) → ⊥)
+    × ((n : Ahrs) → (shown n ≡ 0 ∷ 2 ∷ 5 ∷ [] → ⊥) → SkipsStartup knocked (record { state = n; number = 0 }) → ⊥)
+    × ((n : Ahrs) → (shown n ≡ 1 ∷ 2 ∷ 5 ∷ [] → ⊥) → SetsSettings knocked (at-rate one 0) (record { state = n; number = 0 }) → ⊥)
+    × ((n : Ahrs) → (shown n ≡ 1 ∷ 2 ∷ 5 ∷ [] → ⊥) → SetsSamplePeriod knocked two (record { state = n; number = 0 }) → ⊥)
+    × ((n : Ahrs) → (shown n ≡ 1 ∷ 2 ∷ 5 ∷ [] → ⊥) → SetsQuaternion knocked (quaternion nought one nought nought) (record { state = n; number = 0 }) → ⊥)
 unfolding refusalOf finiteState finiteSettings finiteConfig finiteQuaternion finiteVector finiteRejection freshOf resetOf skippedStartup
     derivedOf limitOf withSettings withThreshold withSamplePeriod withQuaternion settable normSquaredOf
     eq ne lt le add sub mul div neg sum round units odd ofBits
@@ -180,8 +181,8 @@ of-knocked = (
 
 -- both sensors skipped: any counts but one more each, be they left or swapped; and any but those before where the update is refused
 pub of-ignored
-    : ((n : Ahrs) (r : Answer) → (shown n ≡ 306 → ⊥) → Updates over still still still (record { state = n; answer = r }) → ⊥)
-    × ((n : Ahrs) (r : Answer) → (shown n ≡ 205 → ⊥) → Updates (at-start 3) still still still (record { state = n; answer = r }) → ⊥)
+    : ((n : Ahrs) (r : Answer) → (shown n ≡ 0 ∷ 3 ∷ 6 ∷ [] → ⊥) → Updates over still still still (record { state = n; answer = r }) → ⊥)
+    × ((n : Ahrs) (r : Answer) → (shown n ≡ 0 ∷ 2 ∷ 5 ∷ [] → ⊥) → Updates (at-start 3) still still still (record { state = n; answer = r }) → ⊥)
 unfolding refusalOf finiteState finiteSettings finiteConfig finiteQuaternion finiteVector finiteRejection
     updatedOf overrangeOf overOf startupGainOf halfFeedbackOf halfGravityOf halfWestOf halfInclinationFeedbackOf halfHeadingFeedbackOf resetOf skippedOf
     longerOf rateOf integratedOf normalizeOf normOf normSquaredOf sqrtOf rootBitsOf squaredOf exponentOf significandOf nearestRootOf floorRoot leadingZeros

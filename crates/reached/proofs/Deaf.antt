@@ -29,7 +29,7 @@ use Rattle.ahrs.specs.Filter.{freshOf, restartedOf, skippedStartup, withSetting
 use Rattle.ahrs.specs.Filter.{softRestartedOf, overrangeOf, halfFeedbackOf}
 use Rattle.ahrs.specs.Calls.{updateChecks, stateChecks, changeChecks, periodChecks, quaternionChecks}
 use Rattle.reached.specs.Runs.{Call, update, restart, skip-startup, set-settings, set-sample-period, set-quaternion, outlineOf}
-use Rattle.reached.specs.Deaf.{Sensor, accelerometer, magnetometer, ofSensor, markOf, countOf, MarkTells}
+use Rattle.reached.specs.Deaf.{Sensor, accelerometer, magnetometer, ofSensor, markOf, countOf, feedbackBy, MarkTells}
 use Rattle.reached.specs.Deaf.{Effect, clears, updates, leaves, effectOf, effectsOf, reachedOf, sinceOf, inARow, usedOrNone}
 use Rattle.reached.specs.Deaf.{atMost, reachedCount, reachedSince, HowLong, countAfter, EachCall, Marked, StaysMarked}
 
@@ -37,7 +37,7 @@ use Rattle.reached.specs.Deaf.{atMost, reachedCount, reachedSince, HowLo
 
 -- what a sensor's update gives to the feedback, and leaves of the count, by the mark that it leaves
 record Tells (count : ℕ) (f : Feedback) : Type 0 where
-  gives : f .«half_feedback» ≡ cond (f .rejection .ignored) zeroVector (f .rejection .«half_residual»)
+  gives : f .«half_feedback» ≡ feedbackBy (f .rejection)
   counts : f .rejection .«ignored_count» ≡ cond (f .rejection .ignored) (longerOf count) 0
 
 kept-tells : (count : ℕ) (v : Vector) (u : Updated) → Tells count (keptOf count v u)
