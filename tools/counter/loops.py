@@ -109,10 +109,15 @@ def built(args):
     return counter, called, inlined
 
 
-def main(args):
+def commands():
+    """Stops where a command is missing that a program for x86-64 is compiled by."""
     for needed in ("gcc", "clang") if not NATIVE else ("gcc", "rustc"):
         if not shutil.which(needed):
             command.stop(f"the command {needed} is missing")
+
+
+def main(args):
+    commands()
     counter, called, inlined = built(args)
     print(f"{'':28}{'Rust':>10}{'port':>10}{'ratio':>7}{'   Rust ns   port ns' if NATIVE else ''}  sum")
     counts = {}
