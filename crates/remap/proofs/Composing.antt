@@ -1,21 +1,27 @@
 -- Two mountings, one after the other, act on every vector as the single one, and each has one that undoes it. Assumes nothing.
-use Prim.Native.Nat.{ℕ, _+_, _*_, _/_, _%_, _<_}
-use native.Mathlib.Nat.{zero-add}
+use Prim.Native.Nat.{ℕ, _+_, _*_, _/_, _%_, _^_, _≤_, _<_}
 use native.Mathlib.Omega.{arith}
 use mathlib.Core.Path.{_≡_, refl, ap, ap₂, sym, _∙_}
-use mathlib.Core.Bool.{Bool, _&&_, cond}
+use mathlib.Core.Bool.{Bool, false, _&&_, _||_, cond}
 use lib.Dec.{T, eqb, ltb, eqb→eq, ltb→lt}
 use lib.Ieee.{Float, neg}
 use lib.Ieee.Fits.{and-l, and-r}
-use lib.ListN.{getD}
+use borrow.Author.Tests.{ltb-false}
+use Rattle.answer.proofs.Tests.{neither}
 use Rattle.number.proofs.Signs.{neg-neg}
 use Rattle.vector.specs.declared.Vector.{Vector}
 use Rattle.vector.specs.Mounting.{Signed, Px, Py, Pz, Nx, Ny, Nz, Mounting, mountingOf, read, turn, turnOf}
+use Rattle.remap.specs.declared.MountingRead.the-variants.{Number}
 use Rattle.remap.specs.First.{first}
+use Rattle.remap.specs.Given.{Gives}
 use Rattle.remap.specs.Names.{sign, letter, spell, nameOf, same}
-use Rattle.remap.specs.Composition.{opposite, afterwards, composeOf, inverseOf, Composes, Undone}
+use Rattle.remap.specs.Composition.{opposite, afterwards, composeOf, inverseOf, composeChecks, Composes, Undone}
+use Rattle.remap.specs.Inner.{packed}
+use Rattle.answer.proofs.Answering.{passes, all-pass}
+use Rattle.remap.proofs.Giving.{gives-number}
 use Rattle.remap.proofs.Naming.{is-name}
-use Rattle.remap.proofs.Tabled.{tabulate, tabulated, at-each}
+use Rattle.remap.proofs.Tabled.{at-each, at-both}
+use Rattle.remap.proofs.Packed.{unpacked}
 
 -- ---- two signed permutations, one after the other
 
@@ -75,20 +81,9 @@ spell-once a b e = λ i. record { x = px i; y = py i; z = pz i }
 
 -- ---- the set is closed: a test that antt computes at all 576
 
--- first then second, at the place of the two
-abbrev pub composeAt : ℕ → ℕ
-composeAt i = composeOf (i / 24) (i % 24)
-
-place : (a b : ℕ) → b < 24 → composeAt (a * 24 + b) ≡ composeOf a b
-place a b h =
-    let q : (a * 24 + b) / 24 ≡ a = omega arith in
-    let r : (a * 24 + b) % 24 ≡ b = omega arith in
-    ap₂ composeOf q r
-
 closed : (a b : ℕ) → a < 24 → b < 24 → composeOf a b < 24
 unfolding composeOf first same nameOf mountingOf
-closed a b h g =
-    rw (place a b g) at (ltb→lt (composeAt (a * 24 + b)) 24 (at-each 576 (λ i. ltb (composeAt i) 24) tt (a * 24 + b) (omega arith)))
+closed a b h g = ltb→lt (composeOf a b) 24 (at-both 24 24 (λ m n. ltb (composeOf m n) 24) tt a b h g)
 
 compose-is : (a b : ℕ) → a < 24 → b < 24 → mountingOf (composeOf a b) ≡ afterwards (mountingOf a) (mountingOf b)
 unfolding composeOf nameOf
@@ -124,10 +119,17 @@ undone n v h =
       turn-compose m n v g h ∙ in-place (composeOf m n) v (eqb→eq (composeOf m n) 0 (and-r (eqb (composeOf n m) 0) (eqb (composeOf m n) 0) both)),
     )
 
--- ---- the code's constants
+-- ---- the code's words
 
-pub compose-at : (a b : ℕ) → a < 24 → b < 24 → getD (tabulate composeAt 576 0) (a * 24 + b) 0 ≡ composeOf a b
-compose-at a b h g = tabulated composeAt 576 0 (a * 24 + b) (omega arith) ∙ ap composeAt (zero-add (a * 24 + b)) ∙ place a b g
+module _ (a b : ℕ) (passed : (ltb 23 a || ltb 23 b) ≡ false) where
+  pub both-below : (a < 24) × (b < 24)
+  both-below =
+      let (p, q) = neither (ltb 23 a) (ltb 23 b) passed in
+      (omega (arith, ltb-false 23 a p), omega (arith, ltb-false 23 b q))
 
-pub inverse-at : (n : ℕ) → n < 24 → getD (tabulate inverseOf 24 0) n 0 ≡ inverseOf n
-inverse-at n h = tabulated inverseOf 24 0 n h ∙ ap inverseOf (zero-add n)
+  -- what is read at the place j of the word of those from i on
+  pub answered : (i j : ℕ) {w r : ℕ} → i ≤ 12 → j < 12 → i + j ≡ b → w ≡ packed 32 (composeOf a) 12 i → r ≡ w / 2 ^ (5 * j) % 32
+      → Gives (composeChecks a b) (composeOf a b) (Number r)
+  answered i j l g e p q =
+      gives-number (composeChecks a b) (composeOf a b) (passes 4 _ passed ∙ all-pass)
+      (q ∙ rw p (unpacked 5 (composeOf a) 12 i j (λ n m. omega (arith, closed a n (both-below .0) (omega arith))) g ∙ ap (composeOf a) e))

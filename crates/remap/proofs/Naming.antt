@@ -1,8 +1,8 @@
 -- Each name is read as its mounting, and no other bytes are that name. Assumes nothing.
-use Prim.Native.Nat.{ℕ, zero, suc, _+_, _*_, _/_, _%_, _≤_, _<_}
+use Prim.Native.Nat.{ℕ, zero, suc, _+_, _-_, _*_, _/_, _%_, _^_, _≤_, _<_}
 use native.Mathlib.Nat.{zero-add}
 use native.Mathlib.Omega.{arith}
-use mathlib.Core.Path.{_≡_, refl, ap, ap₂, sym, _∙_}
+use mathlib.Core.Path.{_≡_, refl, ap, sym, _∙_}
 use mathlib.Core.Bool.{Bool, true, false, not}
 use mathlib.Core.List.{List, [], _∷_}
 use lib.Dec.{eqb, ltb, eqb→eq}
@@ -15,10 +15,12 @@ use Rattle.remap.specs.declared.MountingRead.the-variants.{Number, Refus
 use Rattle.remap.specs.First.{first}
 use Rattle.remap.specs.Given.{Gives}
 use Rattle.remap.specs.Names.{nameOf, same, namedBy, readChecks, writeChecks, NameWritten, NameRead, NoOther}
+use Rattle.remap.specs.Inner.{packed}
 use Rattle.answer.proofs.Answering.{fails, passes, all-pass, unfailed}
 use Rattle.remap.proofs.Giving.{gives-refusal, gives-number}
 use Rattle.remap.proofs.Searching.{first-passes, same-next, same-not, same-end, same-eq, copied-next, copied-all}
-use Rattle.remap.proofs.Tabled.{tabulate, tabulated, at-each}
+use Rattle.remap.proofs.Tabled.{tabulate, tabulated, at-each, at-both}
+use Rattle.remap.proofs.Packed.{unpacked}
 
 name-length : (n : ℕ) → length (nameOf n) ≡ 6
 unfolding nameOf
@@ -42,17 +44,30 @@ module _ (s : List ℕ) (n k : ℕ) (six : length s ≡ 6) where
   pub copy-end : 6 ≤ k → take k s ≡ take k (nameOf n) → s ≡ nameOf n
   copy-end h = copied-all (nameOf n) s k (omega arith) (omega (arith, name-length n))
 
--- ---- the code's constant
+-- ---- the code's rows
 
--- the byte at a place of all the names
-abbrev pub byteAt : ℕ → ℕ
-byteAt i = getD (nameOf (i / 6)) (i % 6) 0
+-- what the k-th byte of a name is counted from: `+` or `X`
+abbrev base : ℕ → ℕ
+base k = 43 + 45 * (k % 2)
 
-pub byte-at : (n k : ℕ) → n < 24 → k < 6 → getD (tabulate byteAt 144 0) (n * 6 + k) 0 ≡ getD (nameOf n) k 0
-byte-at n k h g =
-    let q : (n * 6 + k) / 6 ≡ n = omega arith in
-    let r : (n * 6 + k) % 6 ≡ k = omega arith in
-    tabulated byteAt 144 0 (n * 6 + k) (omega arith) ∙ ap byteAt (zero-add (n * 6 + k)) ∙ ap₂ (λ (a b : ℕ). getD (nameOf a) b 0) q r
+-- how far it is from there, in two bits
+abbrev step : ℕ → ℕ → ℕ
+step k n = (getD (nameOf n) k 0 - base k) % 4
+
+-- the two give the byte: a test that antt computes at all 144
+stepped : (k n : ℕ) → k < 6 → n < 24 → base k + step k n ≡ getD (nameOf n) k 0
+unfolding nameOf mountingOf
+stepped k n g h =
+    eqb→eq (base k + step k n) (getD (nameOf n) k 0) (at-both 6 24 (λ i m. eqb (base i + step i m) (getD (nameOf m) i 0)) tt k n g h)
+
+abbrev rowOf : ℕ → ℕ
+rowOf k = packed 4 (step k) 24 0
+
+pub byte-at : (n k b : ℕ) → n < 24 → k < 6 → base k ≡ b → b + getD (tabulate rowOf 6 0) k 0 / 2 ^ (2 * n) % 4 ≡ getD (nameOf n) k 0
+byte-at n k b h g e =
+    let row = tabulated rowOf 6 0 k g ∙ ap rowOf (zero-add k) in
+    let digit = unpacked 2 (step k) 24 0 n (λ m l. omega arith) h ∙ ap (step k) (zero-add n) in
+    rw (row, digit, ← e) (stepped k n g h)
 
 -- ---- writing and reading
 

@@ -1,4 +1,4 @@
--- A table that a function of the place makes, and a test at every number below a bound, which antt computes. Assumes nothing.
+-- A table that a function of the place makes, and a test at every number below a bound, or at every two, which antt computes. Assumes nothing.
 use Prim.Native.Nat.{ℕ, zero, suc, _+_, _<_}
 use native.Mathlib.Nat.{not-suc-le-zero, le-of-suc-le-suc, add-zero}
 use native.Mathlib.Decide.{decLt}
@@ -31,3 +31,7 @@ at-each (suc n) test t i h = pick (decLt i n) (at-each n test (and-r (test n) (a
     pick : Dec (i < n) → (i < n → T (test i)) → T (test i)
     pick (yes l) earlier = earlier l
     pick (no g) earlier = let e : n ≡ i = omega arith in subst (λ (m : ℕ). T (test m)) e (and-l (test n) (all-below n test) t)
+
+-- at every two numbers, each below its bound
+pub at-both : (n k : ℕ) (test : ℕ → ℕ → Bool) → T (all-below n (λ i. all-below k (test i))) → (i j : ℕ) → i < n → j < k → T (test i j)
+at-both n k test t i j h g = at-each k (test i) (at-each n (λ m. all-below k (test m)) t i h) j g

@@ -7,22 +7,24 @@ ghost use Rattle.answer.specs.Refusals.{refusalOf};
 ghost use Rattle.remap.specs.Given.{Gives};
 ghost use Rattle.remap.specs.Names.{nameOf, same, namedBy, readChecks, writeChecks, NameWritten};
 
-// In the order of `RemapAlignment::ALL`.
-const NAMES: [u8; 144] = *b"\
-    +X+Y+Z+X-Z+Y+X-Y-Z+X+Z-Y\
-    -X+Y-Z-X+Z+Y-X-Y+Z-X-Z-Y\
-    +Y-X+Z+Y-Z-X+Y+X-Z+Y+Z+X\
-    -Y+X+Z-Y-Z+X-Y-X-Z-Y+Z-X\
-    +Z+Y-X+Z+X+Y+Z-Y+X+Z-X-Y\
-    -Z+Y+X-Z-X+Y-Z-Y-X-Z+X-Y";
+// A row for each byte of a name, two bits for each mounting in the order of `RemapAlignment::ALL`, the lowest first: what is added to a
+// `+` or to an `X`.
+const STEPS: [u64; 6] = [
+    0b10_10_10_10_00_00_00_00_10_10_10_10_00_00_00_00_10_10_10_10_00_00_00_00,
+    0b10_10_10_10_10_10_10_10_01_01_01_01_01_01_01_01_00_00_00_00_00_00_00_00,
+    0b00_10_10_00_10_10_00_00_00_10_10_00_00_00_10_10_10_10_00_00_00_10_10_00,
+    0b00_01_00_01_00_01_00_01_10_00_10_00_10_00_10_00_10_01_10_01_10_01_10_01,
+    0b10_10_00_00_10_00_00_10_10_10_00_00_00_10_10_00_10_00_00_10_10_10_00_00,
+    0b01_00_01_00_01_00_01_00_00_10_00_10_00_10_00_10_01_10_01_10_01_10_01_10,
+];
 
-// The k-th byte of a name. Only this reads the table, so that no other proof has it in its goals.
+// The k-th byte of a name. Only this reads the rows, so that no other proof has them in its goals.
 fn byte_of(mounting: u8, k: usize) -> u8
     requires { ⌜ (mounting < 24) × (k < 6) ⌝ }
     ensures { λ r. ⌜ r ≡ getD (nameOf mounting) k 0 ⌝ }
 {
-    let at = (mounting as usize) * 6 + k;
-    NAMES[at]
+    let step = ((STEPS[k] >> (2 * mounting)) % 4) as u8;
+    if k % 2 == 0 { b'+' + step } else { b'X' + step }
 }
 
 // Stores a name where it has just room.

@@ -8,6 +8,7 @@ use lib.Dec.{T, T-not, eqb, eqb→eq, eqb-refl}
 use lib.IntN.{ℤ, pos, negsuc}
 use lib.ListN.{length, getD}
 use lib.Ieee.Fits.{and-i, and-l, and-r}
+use Rattle.vector.specs.Inner.{placeOf}
 use Rattle.vector.specs.Mounting.{Signed, Px, Py, Pz, Nx, Ny, Nz, Mounting, mounting, mountings, mountingOf}
 use Rattle.vector.specs.Determinant.{determinantOf, letterOf, Permutation, Numbered, AllOfDeterminantOne}
 use Rattle.vector.proofs.Turning.{beq-eq}
@@ -17,15 +18,7 @@ use Rattle.vector.proofs.Turning.{beq-eq}
 abbrev axes : List Signed
 axes = Px ∷ Py ∷ Pz ∷ Nx ∷ Ny ∷ Nz ∷ []
 
-abbrev place : Signed → ℕ
-place Px = 0
-place Py = 1
-place Pz = 2
-place Nx = 3
-place Ny = 4
-place Nz = 5
-
-at-place : (s : Signed) → getD axes (place s) Px ≡ s
+at-place : (s : Signed) → getD axes (placeOf s) Px ≡ s
 at-place Px = refl
 at-place Py = refl
 at-place Pz = refl
@@ -34,10 +27,10 @@ at-place Ny = refl
 at-place Nz = refl
 
 abbrev alike : Signed → Signed → Bool
-alike s t = eqb (place s) (place t)
+alike s t = eqb (placeOf s) (placeOf t)
 
 alike-eq : (s t : Signed) → T (alike s t) → s ≡ t
-alike-eq s t h = sym (at-place s) ∙ ap (λ (n : ℕ). getD axes n Px) (eqb→eq (place s) (place t) h) ∙ at-place t
+alike-eq s t h = sym (at-place s) ∙ ap (λ (n : ℕ). getD axes n Px) (eqb→eq (placeOf s) (placeOf t) h) ∙ at-place t
 
 abbrev same : Mounting → Mounting → Bool
 same m k = alike (m .x) (k .x) && (alike (m .y) (k .y) && alike (m .z) (k .z))
@@ -52,9 +45,9 @@ same-eq m k t =
 
 same-itself : (m : Mounting) → T (same m m)
 same-itself m =
-    let x = place (m .x) in
-    let y = place (m .y) in
-    let z = place (m .z) in
+    let x = placeOf (m .x) in
+    let y = placeOf (m .y) in
+    let z = placeOf (m .z) in
     and-i (eqb x x) (eqb y y && eqb z z) (eqb-refl x) (and-i (eqb y y) (eqb z z) (eqb-refl y) (eqb-refl z))
 
 -- ---- whether a list has a mounting

@@ -1,5 +1,6 @@
 pub mod Vectors
 pub mod Mounting
+pub mod Inner
 pub mod Determinant
 pub mod Turned
 pub mod Determined

@@ -2,53 +2,82 @@
 use super::Vector;
 use answer::Answer;
 ghost use mathlib.Core.Path.{_≡_};
-ghost use mathlib.Core.Bool.{cond};
+ghost use Prim.Native.Nat.{_<_, _/_, _%_};
 ghost use Rattle.answer.specs.Promises.{Answers};
+ghost use Rattle.vector.specs.Inner.{axesOf, Within, readBy};
 ghost use Rattle.vector.specs.Mounting.{turnOf};
 ghost use Rattle.vector.specs.Turned.{turnChecks, turnedAnswer};
+ghost use Rattle.vector.specs.Vectors.{finiteVector};
 
-// An arm's vector, or 5 where what is turned is not finite.
-fn arm(finite: bool, x: f32, y: f32, z: f32) -> Answer
-    ensures { λ r. ⌜ r ≡ cond finite (Answer.Turned x y z) (Answer.Refused 5) ⌝ }
+// The axes of no mounting.
+const NONE: u16 = 0xffff;
+
+// What a mounting reads for x, y and z, five bits each: 0, 1 and 2 are the sensor's axes, 3, 4 and 5 their negatives. The compiler
+// makes a table of the match. Three bits would do; of five it takes x by a shift alone.
+fn axes_of(mounting: u8) -> u16
+    ensures { λ r. ⌜ r ≡ axesOf mounting ⌝ }
 {
-    if finite {
-        Answer::Turned(x, y, z)
-    } else {
-        Answer::Refused(5)
+    match mounting {
+        0 => 0b00000_00001_00010,
+        1 => 0b00000_00101_00001,
+        2 => 0b00000_00100_00101,
+        3 => 0b00000_00010_00100,
+        4 => 0b00011_00001_00101,
+        5 => 0b00011_00010_00001,
+        6 => 0b00011_00100_00010,
+        7 => 0b00011_00101_00100,
+        8 => 0b00001_00011_00010,
+        9 => 0b00001_00101_00011,
+        10 => 0b00001_00000_00101,
+        11 => 0b00001_00010_00000,
+        12 => 0b00100_00000_00010,
+        13 => 0b00100_00101_00000,
+        14 => 0b00100_00011_00101,
+        15 => 0b00100_00010_00011,
+        16 => 0b00010_00001_00011,
+        17 => 0b00010_00000_00001,
+        18 => 0b00010_00100_00000,
+        19 => 0b00010_00011_00100,
+        20 => 0b00101_00001_00000,
+        21 => 0b00101_00011_00001,
+        22 => 0b00101_00100_00011,
+        23 => 0b00101_00000_00100,
+        _ => NONE,
     }
 }
 
+// What `is_finite` answers, with a test less: x - x and z - z are zeros or NaNs, and their sum is a NaN exactly when one of them is.
+fn is_whole(v: Vector) -> bool
+    ensures { λ r. ⌜ r ≡ finiteVector v ⌝ }
+{
+    let xz = (v.x - v.x) + (v.z - v.z);
+    let y = v.y - v.y;
+    (xz == xz) & (y == y)
+}
+
 impl Vector {
+    // The vector that the axes read. The last place is never read; with it the compiler stores four floats at once.
+    fn read_by(self, axes: u16) -> Answer
+        requires { ⌜ Within axes ⌝ }
+        ensures { λ r. ⌜ r ≡ turnedAnswer (readBy axes self) ⌝ }
+    {
+        let signed = [self.x, self.y, self.z, -self.x, -self.y, -self.z, -self.z];
+        let x = (axes / 1024) as usize;
+        let y = (axes / 32 % 32) as usize;
+        let z = (axes % 32) as usize;
+        Answer::Turned(signed[x], signed[y], signed[z])
+    }
+
     pub fn turned(self, mounting: u8) -> Answer
         ensures { λ r. ⌜ Answers (turnChecks self mounting) (turnedAnswer (turnOf mounting self)) r ⌝ }
     {
-        let finite = self.is_finite();
-        match mounting {
-            0 => arm(finite, self.x, self.y, self.z),
-            1 => arm(finite, self.x, -self.z, self.y),
-            2 => arm(finite, self.x, -self.y, -self.z),
-            3 => arm(finite, self.x, self.z, -self.y),
-            4 => arm(finite, -self.x, self.y, -self.z),
-            5 => arm(finite, -self.x, self.z, self.y),
-            6 => arm(finite, -self.x, -self.y, self.z),
-            7 => arm(finite, -self.x, -self.z, -self.y),
-            8 => arm(finite, self.y, -self.x, self.z),
-            9 => arm(finite, self.y, -self.z, -self.x),
-            10 => arm(finite, self.y, self.x, -self.z),
-            11 => arm(finite, self.y, self.z, self.x),
-            12 => arm(finite, -self.y, self.x, self.z),
-            13 => arm(finite, -self.y, -self.z, self.x),
-            14 => arm(finite, -self.y, -self.x, -self.z),
-            15 => arm(finite, -self.y, self.z, -self.x),
-            16 => arm(finite, self.z, self.y, -self.x),
-            17 => arm(finite, self.z, self.x, self.y),
-            18 => arm(finite, self.z, -self.y, self.x),
-            19 => arm(finite, self.z, -self.x, -self.y),
-            20 => arm(finite, -self.z, self.y, self.x),
-            21 => arm(finite, -self.z, -self.x, self.y),
-            22 => arm(finite, -self.z, -self.y, -self.x),
-            23 => arm(finite, -self.z, self.x, -self.y),
-            _ => Answer::Refused(4),
+        let axes = axes_of(mounting);
+        if axes == NONE {
+            return Answer::Refused(4);
         }
+        if !is_whole(self) {
+            return Answer::Refused(5);
+        }
+        self.read_by(axes)
     }
 }
