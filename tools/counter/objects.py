@@ -1,9 +1,10 @@
-"""What a function takes in an object for x86-64: its code and all that it calls, and the constants that this code reads."""
+"""What a function takes in an object for x86-64: its code and all that it calls, and the constants that this code reads, tables of tables
+too."""
 import struct
 
 import command
 
-CODE, MERGED, SECTION = 4, 0x10, 3
+CODE, MERGED = 4, 0x10
 
 
 def member(archive):
@@ -49,17 +50,18 @@ class Object:
         todo, code, constants = [self.named[f][3] for f in functions], {}, {}
         while todo:
             section = todo.pop()
-            if section in code:
+            flags, size = self.sections[section][2], self.sections[section][5]
+            held = code if flags & CODE else constants
+            if section in held:
                 continue
-            code[section] = self.sections[section][5]
+            held[section] = size
             for found, at in self.reads(section):
                 if not 0 < found < len(self.sections):
                     command.stop("the calls name something that is not in their object")
-                flags, size, entry = (self.sections[found][i] for i in (2, 5, 9))
-                if flags & CODE:
-                    todo.append(found)
-                elif flags & MERGED:
+                # Of the numbers that are merged only those that are named count.
+                if self.sections[found][2] & MERGED:
+                    entry = self.sections[found][9]
                     constants[found, at // entry] = entry
                 else:
-                    constants[found, 0] = size
+                    todo.append(found)
         return sum(code.values()), sum(constants.values())

@@ -32,7 +32,7 @@ PROGRAMS = {"type", "for", "in", "&&", "||", "..="}
 
 TOKEN = re.compile(r"""(?P<space>\n|[ ]+)|(?P<comment>//[^\n]*)
     |(?P<bytes>b"(?:\\[\\"n\n]|\\x[0-9a-fA-F]{2}|[\x20\x21\x23-\x5b\x5d-\x7e])*"|b'(?:\\[n'\\]|[\x20-\x26\x28-\x5b\x5d-\x7e])')
-    |(?P<number>0x[0-9a-fA-F_]+(?:u8|u16|u32|u64)?|[0-9][0-9_]*(?:\.[0-9][0-9_]*)?(?:u8|u16|u32|u64|usize|i32|i64|f32|f64)?)(?![A-Za-z0-9_])
+    |(?P<number>0x[0-9a-fA-F_]+(?:u8|u16|u32|u64)?|0b[01_]+|[0-9][0-9_]*(?:\.[0-9][0-9_]*)?(?:u8|u16|u32|u64|usize|i32|i64|f32|f64)?)(?![A-Za-z0-9_])
     |(?P<word>[A-Za-z_][A-Za-z0-9_]*)|(?P<sign>""" + "|".join(map(re.escape, KNOWN)) + r"""|[(){}\[\],;:=<>+\-*/%&|^!.])""", re.X)
 CLAUSE = re.compile(r"[ ]+(?:requires|ensures)(?: [a-z_]+)? \{")
 GHOST = re.compile(r"ghost use [^;]*;\n")

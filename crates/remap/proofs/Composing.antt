@@ -1,5 +1,5 @@
 -- Two mountings, one after the other, act on every vector as the single one, and each has one that undoes it. Assumes nothing.
-use Prim.Native.Nat.{ℕ, _+_, _*_, _/_, _%_, _^_, _≤_, _<_}
+use Prim.Native.Nat.{ℕ, _+_, _*_, _/_, _%_, _^_, _<_}
 use native.Mathlib.Omega.{arith}
 use mathlib.Core.Path.{_≡_, refl, ap, ap₂, sym, _∙_}
 use mathlib.Core.Bool.{Bool, false, _&&_, _||_, cond}
@@ -16,7 +16,7 @@ use Rattle.remap.specs.First.{first}
 use Rattle.remap.specs.Given.{Gives}
 use Rattle.remap.specs.Names.{sign, letter, spell, nameOf, same}
 use Rattle.remap.specs.Composition.{opposite, afterwards, composeOf, inverseOf, composeChecks, Composes, Undone}
-use Rattle.remap.specs.Inner.{packed}
+use Rattle.remap.specs.Inner.{sixOf}
 use Rattle.answer.proofs.Answering.{passes, all-pass}
 use Rattle.remap.proofs.Giving.{gives-number}
 use Rattle.remap.proofs.Naming.{is-name}
@@ -127,9 +127,18 @@ module _ (a b : ℕ) (passed : (ltb 23 a || ltb 23 b) ≡ false) where
       let (p, q) = neither (ltb 23 a) (ltb 23 b) passed in
       (omega (arith, ltb-false 23 a p), omega (arith, ltb-false 23 b q))
 
-  -- what is read at the place j of the word of those from i on
-  pub answered : (i j : ℕ) {w r : ℕ} → i ≤ 12 → j < 12 → i + j ≡ b → w ≡ packed 32 (composeOf a) 12 i → r ≡ w / 2 ^ (5 * j) % 32
-      → Gives (composeChecks a b) (composeOf a b) (Number r)
-  answered i j l g e p q =
-      gives-number (composeChecks a b) (composeOf a b) (passes 4 _ passed ∙ all-pass)
-      (q ∙ rw p (unpacked 5 (composeOf a) 12 i j (λ n m. omega (arith, closed a n (both-below .0) (omega arith))) g ∙ ap (composeOf a) e))
+  -- what is read at the place of b in the word of the six that it is one of
+  pub answered : {w r : ℕ} → w ≡ sixOf a (b / 6) → r ≡ w / 2 ^ (5 * (b % 6)) % 32 → Gives (composeChecks a b) (composeOf a b) (Number r)
+  answered e f = gives-number (composeChecks a b) (composeOf a b) (passes 4 _ passed ∙ all-pass) (f ∙ rw e (there ∙ ap (composeOf a) place))
+    where
+      i : ℕ
+      i = 6 * (b / 6)
+
+      below : (n : ℕ) → n < i + 6 → composeOf a n < 2 ^ 5
+      below n m = omega (arith, closed a n (both-below .0) (omega (arith, both-below .1)))
+
+      there : sixOf a (b / 6) / 2 ^ (5 * (b % 6)) % 32 ≡ composeOf a (i + b % 6)
+      there = unpacked 5 (composeOf a) 6 i (b % 6) below (omega arith)
+
+      place : i + b % 6 ≡ b
+      place = omega arith

@@ -1,24 +1,12 @@
--- A table that a function of the place makes, and a test at every number below a bound, or at every two, which antt computes. Assumes nothing.
-use Prim.Native.Nat.{ℕ, zero, suc, _+_, _<_}
-use native.Mathlib.Nat.{not-suc-le-zero, le-of-suc-le-suc, add-zero}
+-- A test at every number below a bound, or at every two, which antt computes. Assumes nothing.
+use Prim.Native.Nat.{ℕ, zero, suc, _<_}
+use native.Mathlib.Nat.{not-suc-le-zero}
 use native.Mathlib.Decide.{decLt}
 use native.Mathlib.Omega.{arith}
-use mathlib.Core.Path.{_≡_, ap, sym, subst, _∙_}
+use mathlib.Core.Path.{_≡_, subst}
 use mathlib.Core.Bool.{Bool, true, _&&_}
-use mathlib.Core.List.{List, [], _∷_}
 use lib.Dec.{T}
-use lib.ListN.{getD}
 use lib.Ieee.Fits.{and-l, and-r}
-
--- f at k places from i on
-abbrev pub tabulate : (ℕ → ℕ) → ℕ → ℕ → List ℕ
-tabulate f zero i = []
-tabulate f (suc k) i = f i ∷ tabulate f k (suc i)
-
-pub tabulated : (f : ℕ → ℕ) (k i j : ℕ) → j < k → getD (tabulate f k i) j 0 ≡ f (i + j)
-tabulated f zero i j h = absurd (not-suc-le-zero h)
-tabulated f (suc k) i zero h = ap f (sym (add-zero i))
-tabulated f (suc k) i (suc j) h = tabulated f k (suc i) j (le-of-suc-le-suc h) ∙ ap f (omega arith)
 
 abbrev pub all-below : ℕ → (ℕ → Bool) → Bool
 all-below zero test = true

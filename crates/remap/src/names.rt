@@ -2,29 +2,25 @@
 use super::MountingRead;
 ghost use mathlib.Core.Path.{_≡_};
 ghost use Prim.Native.Nat.{_<_};
-ghost use lib.ListN.{length, getD};
+ghost use lib.ListN.{length};
 ghost use Rattle.answer.specs.Refusals.{refusalOf};
 ghost use Rattle.remap.specs.Given.{Gives};
+ghost use Rattle.remap.specs.Inner.{byteOf};
 ghost use Rattle.remap.specs.Names.{nameOf, same, namedBy, readChecks, writeChecks, NameWritten};
 
-// A row for each byte of a name, two bits for each mounting in the order of `RemapAlignment::ALL`, the lowest first: what is added to a
-// `+` or to an `X`.
-const STEPS: [u64; 6] = [
-    0b10_10_10_10_00_00_00_00_10_10_10_10_00_00_00_00_10_10_10_10_00_00_00_00,
-    0b10_10_10_10_10_10_10_10_01_01_01_01_01_01_01_01_00_00_00_00_00_00_00_00,
-    0b00_10_10_00_10_10_00_00_00_10_10_00_00_00_10_10_10_10_00_00_00_10_10_00,
-    0b00_01_00_01_00_01_00_01_10_00_10_00_10_00_10_00_10_01_10_01_10_01_10_01,
-    0b10_10_00_00_10_00_00_10_10_10_00_00_00_10_10_00_10_00_00_10_10_10_00_00,
-    0b01_00_01_00_01_00_01_00_00_10_00_10_00_10_00_10_01_10_01_10_01_10_01_10,
-];
-
-// The k-th byte of a name. Only this reads the rows, so that no other proof has them in its goals.
-fn byte_of(mounting: u8, k: usize) -> u8
-    requires { ⌜ (mounting < 24) × (k < 6) ⌝ }
-    ensures { λ r. ⌜ r ≡ getD (nameOf mounting) k 0 ⌝ }
+// The k-th byte of the name of a mounting with these axes: a sign or a letter of one of them. Without a branch on the axes the
+// compiler keeps them a table.
+fn byte_of(axes: u16, k: usize) -> u8
+    requires { ⌜ k < 6 ⌝ }
+    ensures { λ r. ⌜ r ≡ byteOf axes k ⌝ }
 {
-    let step = ((STEPS[k] >> (2 * mounting)) % 4) as u8;
-    if k % 2 == 0 { b'+' + step } else { b'X' + step }
+    let place = ((axes >> (10 - 5 * (k / 2))) % 8) as u8;
+    let minus = (place + 1) / 4;
+    if k % 2 == 0 {
+        b'+' + 2 * minus
+    } else {
+        b'X' + place - 3 * minus
+    }
 }
 
 // Stores a name where it has just room.
@@ -32,9 +28,10 @@ fn put_name(mounting: u8, name: &mut [u8])
     requires { ⌜ (mounting < 24) × (length (now name) ≡ 6) ⌝ }
     ensures { λ _. ⌜ now (name .exit) ≡ nameOf mounting ⌝ }
 {
+    let axes = vector::axes_of(mounting);
     let mut k = 0;
     while k < 6 {
-        name[k] = byte_of(mounting, k);
+        name[k] = byte_of(axes, k);
         k += 1;
     }
 }
@@ -69,9 +66,10 @@ fn is_name(name: &[u8], mounting: u8) -> bool
     requires { ⌜ (length (now name) ≡ 6) × (mounting < 24) ⌝ }
     ensures { λ r. ⌜ r ≡ same (now (name .entry)) (nameOf mounting) ⌝ }
 {
+    let axes = vector::axes_of(mounting);
     let mut k = 0;
     while k < 6 {
-        if name[k] != byte_of(mounting, k) {
+        if name[k] != byte_of(axes, k) {
             return false;
         }
         k += 1;

@@ -17,7 +17,8 @@ use Rattle.answer.proofs.Answering.{fails, passes, all-pass, refuses, gives}
 use Rattle.answer.proofs.Table.{by-the-table}
 use Rattle.answer.proofs.Tests.{one}
 use Rattle.vector.specs.declared.Vector.{Vector}
-use Rattle.vector.specs.Inner.{placeOf, places, noPlaces, axesOf, signedOf, readBy, Within}
+use Rattle.vector.specs.Axes.{placeOf, places, noPlaces, axesOf}
+use Rattle.vector.specs.Inner.{signedOf, readBy, Within}
 use Rattle.vector.specs.Mounting.{Signed, Px, Py, Pz, Nx, Ny, Nz, Mounting, mountingOf, read, turn, turnOf}
 use Rattle.vector.specs.Turned.{turnChecks, turnedAnswer, ExactlyWhen}
 use Rattle.vector.specs.Vectors.{finiteVector}

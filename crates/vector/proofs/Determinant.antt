@@ -8,7 +8,7 @@ use lib.Dec.{T, T-not, eqb, eqb→eq, eqb-refl}
 use lib.IntN.{ℤ, pos, negsuc}
 use lib.ListN.{length, getD}
 use lib.Ieee.Fits.{and-i, and-l, and-r}
-use Rattle.vector.specs.Inner.{placeOf}
+use Rattle.vector.specs.Axes.{placeOf}
 use Rattle.vector.specs.Mounting.{Signed, Px, Py, Pz, Nx, Ny, Nz, Mounting, mounting, mountings, mountingOf}
 use Rattle.vector.specs.Determinant.{determinantOf, letterOf, Permutation, Numbered, AllOfDeterminantOne}
 use Rattle.vector.proofs.Turning.{beq-eq}

@@ -17,6 +17,7 @@ use Rattle.root.specs.Root.{floorRoot, nearestRootOf, significandOf, exponentOf
 use Rattle.vector.specs.declared.Vector.{Vector}
 use Rattle.vector.specs.Vectors.{vector, zeroVector, onesVector, finiteVector, eqOf, isZeroOf, exceedsOf, sumOf, hadamardOf, dotOf, crossOf}
 use Rattle.vector.specs.Vectors.{normSquaredOf, normOf, normalizeOf, addOf, subOf, negOf, mulOf, fromArrayOf, toArrayOf}
+use Rattle.vector.specs.Axes.{axesOf}
 use Rattle.vector.specs.Mounting.{Px, Py, Pz, Nx, Ny, mounting, mountingOf, turnOf}
 use Rattle.vector.specs.Determinant.{determinantOf}
 use Rattle.vector.specs.Turned.{turnChecks, turnedAnswer}
@@ -158,6 +159,11 @@ in-place i l = bits (getD l i nan)
 pub of-to-array : (half ∷ two ∷ one ∷ [] ≡ toArrayOf one-two-half → ⊥) × (one ∷ one ∷ half ∷ [] ≡ toArrayOf one-two-half → ⊥)
 unfolding toBits
 of-to-array = (λ h. apart (in-place 0) h refl, λ h. apart (in-place 1) h refl)
+
+-- of 11, +Y+Z+X, the number of 17, its inverse; of 3, +X+Z-Y, the sign dropped; of 24 the first mounting's
+pub of-axes-of : (2049 ≡ axesOf 11 → ⊥) × (65 ≡ axesOf 3 → ⊥) × (34 ≡ axesOf 24 → ⊥)
+unfolding mountingOf
+of-axes-of = (λ h. apart (λ (n : ℕ). n) h refl, λ h. apart (λ (n : ℕ). n) h refl, λ h. apart (λ (n : ℕ). n) h refl)
 
 -- 11 is +Y+Z+X: what 17, its inverse, gives; the vector itself; a refusal; and 24 turned. The crate remap's `remap` has the same promise.
 pub of-turned

@@ -1,6 +1,7 @@
 pub mod Vectors
 pub mod Mounting
-pub mod Inner
+pub mod Axes
 pub mod Determinant
 pub mod Turned
 pub mod Determined
+pub mod Inner

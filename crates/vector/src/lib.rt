@@ -1,6 +1,7 @@
 // A vector of three f32: the Rust's math/vector.rs, its operators as named methods.
 pub mod turned; // turned.rt: a vector turned by a mounting, which alone refuses
 
+pub use turned::axes_of;
 ghost use mathlib.Core.Path.{_≡_};
 ghost use Rattle.vector.specs.Vectors.{vector, onesVector, finiteVector, eqOf, isZeroOf, exceedsOf, sumOf, hadamardOf, dotOf, crossOf};
 ghost use Rattle.vector.specs.Vectors.{normSquaredOf, normOf, normalizeOf, addOf, subOf, negOf, mulOf, fromArrayOf, toArrayOf};

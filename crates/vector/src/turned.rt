@@ -4,17 +4,18 @@ use answer::Answer;
 ghost use mathlib.Core.Path.{_≡_};
 ghost use Prim.Native.Nat.{_<_, _/_, _%_};
 ghost use Rattle.answer.specs.Promises.{Answers};
-ghost use Rattle.vector.specs.Inner.{axesOf, Within, readBy};
+ghost use Rattle.vector.specs.Axes.{axesOf};
+ghost use Rattle.vector.specs.Inner.{readBy, Within};
 ghost use Rattle.vector.specs.Mounting.{turnOf};
 ghost use Rattle.vector.specs.Turned.{turnChecks, turnedAnswer};
 ghost use Rattle.vector.specs.Vectors.{finiteVector};
 
-// The axes of no mounting.
+// What is read of no mounting.
 const NONE: u16 = 0xffff;
 
-// What a mounting reads for x, y and z, five bits each: 0, 1 and 2 are the sensor's axes, 3, 4 and 5 their negatives. The compiler
-// makes a table of the match. Three bits would do; of five it takes x by a shift alone.
-fn axes_of(mounting: u8) -> u16
+// What a mounting reads for x, y and z, five bits each: 0, 1 and 2 are the sensor's axes, 3, 4 and 5 their negatives; all bits for a
+// number that is no mounting's. The compiler makes a table of the match. Three bits would do; of five it takes x by a shift alone.
+pub fn axes_of(mounting: u8) -> u16
     ensures { λ r. ⌜ r ≡ axesOf mounting ⌝ }
 {
     match mounting {

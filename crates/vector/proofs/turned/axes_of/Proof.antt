@@ -1,5 +1,5 @@
 -- `vector::turned::axes_of` meets its contract: each arm has the places of the mounting with its number. Assumes nothing.
-use Rattle.vector.specs.Inner.{axesOf}
+use Rattle.vector.specs.Axes.{axesOf}
 use Rattle.vector.specs.Mounting.{mountingOf}
 use Rattle.vector.proofs.Axes.{beyond}
 use Rattle.vector.proofs.Matched.{arm}

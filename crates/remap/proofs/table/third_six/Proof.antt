@@ -1,20 +1,20 @@
--- `remap::table::late` meets its contract: each arm's word is computed. Assumes nothing.
+-- `remap::table::third_six` meets its contract: each arm's word is computed. Assumes nothing.
 use Prim.Native.Nat.{ℕ}
 use Rattle.vector.specs.Mounting.{mountingOf}
+use Rattle.vector.proofs.Matched.{arm, none}
 use Rattle.remap.specs.First.{first}
 use Rattle.remap.specs.Names.{nameOf, same}
 use Rattle.remap.specs.Composition.{composeOf}
-use Rattle.remap.specs.Inner.{packed}
-use Rattle.vector.proofs.Matched.{arm, none}
-use Rattle.remap.proofs.table.late.Statement.{statement}
-use Rattle.remap.proofs.table.late.Tie as tie
+use Rattle.remap.specs.Inner.{packed, sixOf}
+use Rattle.remap.proofs.table.third_six.Statement.{statement}
+use Rattle.remap.proofs.table.third_six.Tie as tie
 
 abbrev row : ℕ → ℕ
-row m = packed 32 (composeOf m) 12 12
+row m = sixOf m 2
 
-pub late-spec : {M : Type 1} → statement M
+pub third-six-spec : {M : Type 1} → statement M
 unfolding packed composeOf first same nameOf mountingOf
-late-spec =
+third-six-spec =
     tie.close
     (tie.spec (λ c. arm row (c .match .keys1)) (λ c. arm row (c .match .keys2)) (λ c. arm row (c .match .keys3)) (λ c. arm row (c .match .keys4))
     (λ c. arm row (c .match .keys5)) (λ c. arm row (c .match .keys6)) (λ c. arm row (c .match .keys7)) (λ c. arm row (c .match .keys8))
