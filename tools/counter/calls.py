@@ -84,13 +84,13 @@ def library():
     shutil.rmtree(SIZE, ignore_errors=True)
     (SIZE / "crates/calls/src").mkdir(parents=True)
     (SIZE / "crates/calls/src/lib.rt").write_text(TEXT)
-    (SIZE / "crates.txt").write_text("".join(f"{name}: {' '.join(below)}\n" for name, below in crates.items() if name in taken))
+    (SIZE / "crates.txt").write_text("".join(" ".join((f"{name}:", *below)) + "\n" for name, below in crates.items() if name in taken))
     for name in taken - {"calls"}:
         shutil.copytree(build.TOP / "crates" / name, SIZE / "crates" / name)
         for kept in ("rlib", "stamp"):
             for found in (build.TOP / "target" / kept).glob(f"{name}*"):
                 (target / kept).mkdir(parents=True, exist_ok=True)
-                (shutil.copytree if found.is_dir() else shutil.copy)(found, target / kept / found.name)
+                (shutil.copytree if found.is_dir() else shutil.copy2)(found, target / kept / found.name)
     command.say("proving and compiling the calls ..")
     build.quietly("rt", "staticlib", "calls", why="the calls are not proved", cwd=SIZE)
     return target / "staticlib"
