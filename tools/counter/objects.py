@@ -25,7 +25,8 @@ class Object:
     def __init__(self, archive):
         self.data = member(archive)
         start, = struct.unpack_from("<Q", self.data, 40)
-        width, count, _ = struct.unpack_from("<HHH", self.data, 58)
+        width, count = struct.unpack_from("<HH", self.data, 58)
+        # Of each section its name, kind, flags, address, place, size, two sections that it goes with, and the width of an entry last.
         self.sections = [struct.unpack_from("<IIQQQQIIQQ", self.data, start + width * i) for i in range(count)]
         table = next(s for s in self.sections if s[1] == 2)
         self.symbols = [struct.unpack_from("<IBBHQQ", self.data, at) for at in range(table[4], table[4] + table[5], 24)]
@@ -41,7 +42,7 @@ class Object:
             if s[1] == 4 and s[7] == section:
                 for at in range(s[4], s[4] + s[5], 24):
                     _, info, addend = struct.unpack_from("<QQq", self.data, at)
-                    _, kind, _, found, value, _ = self.symbols[info >> 32]
+                    found, value = self.symbols[info >> 32][3:5]
                     # Code names what lies four bytes before the next instruction.
                     yield found, value + addend + 4 * (self.sections[section][2] & CODE == CODE)
 
