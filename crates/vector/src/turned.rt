@@ -48,7 +48,7 @@ pub fn axes_of(mounting: u8) -> u16
 }
 
 // What `is_finite` answers, with a test less: x - x and z - z are zeros or NaNs, and their sum is a NaN exactly when one of them is.
-fn is_whole(v: Vector) -> bool
+fn all_finite(v: Vector) -> bool
     ensures { λ r. ⌜ r ≡ finiteVector v ⌝ }
 {
     let xz = (v.x - v.x) + (v.z - v.z);
@@ -76,7 +76,7 @@ impl Vector {
         if axes == NONE {
             return Answer::Refused(4);
         }
-        if !is_whole(self) {
+        if !all_finite(self) {
             return Answer::Refused(5);
         }
         self.read_by(axes)

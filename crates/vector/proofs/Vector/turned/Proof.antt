@@ -12,7 +12,7 @@ returns-2 : tie.Need-returns-2
 returns-2 c =
     let t = c .before .before in
     let a = t .before .before .args in
-    not-finite (a .self) (a .mounting) (t .before .axes-of .ensures) (t .if1 .left) (c .before .is-whole .ensures) (c .if2 .taken)
+    not-finite (a .self) (a .mounting) (t .before .axes-of .ensures) (t .if1 .left) (c .before .all-finite .ensures) (c .if2 .taken)
 
 read-by-requires : tie.Need-read-by-requires
 read-by-requires c κs =
@@ -25,7 +25,7 @@ returns-3 c =
     let w = c .before in
     let t = w .before .before in
     let a = t .before .before .args in
-    turns (a .self) (a .mounting) (t .before .axes-of .ensures) (t .if1 .left) (w .before .is-whole .ensures) (w .if2 .left) (c .read-by .ensures)
+    turns (a .self) (a .mounting) (t .before .axes-of .ensures) (t .if1 .left) (w .before .all-finite .ensures) (w .if2 .left) (c .read-by .ensures)
 
 pub turned-spec : {M : Type 1} → statement M
 turned-spec = tie.close (tie.spec (λ c κs. tt) returns (λ c κs. tt) returns-2 read-by-requires returns-3)

@@ -59,9 +59,9 @@ two x z = go (finite x) (finite z) refl refl
     go false q f g = ap (λ (d : Float). test (d ⊕ (z ⊖ z))) (other-less-itself x f)
 
 -- x and z by one test, y by its own
-pub whole-test : (v : Vector) → (test ((v .x ⊖ v .x) ⊕ (v .z ⊖ v .z)) && test (v .y ⊖ v .y)) ≡ finiteVector v
+pub all-three-finite : (v : Vector) → (test ((v .x ⊖ v .x) ⊕ (v .z ⊖ v .z)) && test (v .y ⊖ v .y)) ≡ finiteVector v
 unfolding finiteVector
-whole-test v =
+all-three-finite v =
     ap₂ _&&_ (two (v .x) (v .z)) (less-itself binary32 (v .y))
     ∙ and-assoc (finite (v .x)) (finite (v .z)) (finite (v .y))
     ∙ ap (λ (b : Bool). finite (v .x) && b) (and-comm (finite (v .z)) (finite (v .y)))
