@@ -12,13 +12,12 @@ import packages
 SIZE = build.TOP / "target/size"
 # Each call in an exported function of its own.
 TEXT = """\
+use alignment::MatrixRead;
 use answer::Answer;
 use remap::MountingRead;
 use vector::Vector;
 
-#[no_mangle]
-pub extern "C" fn call_turn(mounting: u8, v: &mut [f32; 3]) -> u8 {
-    let turned = Vector::new(v[0], v[1], v[2]).turned(mounting);
+fn put_turned(turned: Answer, v: &mut [f32; 3]) -> u8 {
     match turned {
         Answer::Turned(x, y, z) => {
             *v = [x, y, z];
@@ -26,6 +25,27 @@ pub extern "C" fn call_turn(mounting: u8, v: &mut [f32; 3]) -> u8 {
         }
         Answer::Refused(number) => number,
         _ => 255,
+    }
+}
+
+#[no_mangle]
+pub extern "C" fn call_turn(mounting: u8, v: &mut [f32; 3]) -> u8 {
+    put_turned(Vector::new(v[0], v[1], v[2]).turned(mounting), v)
+}
+
+#[no_mangle]
+pub extern "C" fn call_rotate(mounting: u8, v: &mut [f32; 3]) -> u8 {
+    put_turned(alignment::rotate(Vector::new(v[0], v[1], v[2]), mounting), v)
+}
+
+#[no_mangle]
+pub extern "C" fn call_to_matrix(mounting: u8, m: &mut [[f32; 3]; 3]) -> u8 {
+    match alignment::to_matrix(mounting) {
+        MatrixRead::Read(matrix) => {
+            *m = matrix.to_rows();
+            0
+        }
+        MatrixRead::Refused(number) => number,
     }
 }
 
@@ -64,7 +84,7 @@ pub extern "C" fn call_turn_run(mounting: u8, source: &[f32], turned: &mut [f32]
 # What each row has of the library's functions, and how many calls are counted.
 ROWS = (("turn", ("turn",), 4800), ("compose", ("compose",), 4800), ("inverse", ("inverse",), 4800), ("write_name", ("write_name",), 4800),
         ("read_name, name written", ("read_name",), 480), ("these five together", ("turn", "compose", "inverse", "write_name", "read_name"), None),
-        ("turn_run, 1000 vectors", ("turn_run",), 48))
+        ("turn_run, 1000 vectors", ("turn_run",), 48), ("to_matrix", ("to_matrix",), 4800), ("rotate", ("rotate",), 4800))
 
 
 def needed(crates, name):
@@ -78,7 +98,7 @@ def library():
         command.stop("the Rattle toolchain is missing: no command rt on the path")
     lines = [line.split("#")[0] for line in (build.TOP / "crates.txt").read_text().splitlines()]
     crates = {name.strip(): below.split() for name, _, below in (line.partition(":") for line in lines) if name.strip()}
-    crates["calls"] = ["turning", "remap", "vector", "answer"]
+    crates["calls"] = ["turning", "alignment", "remap", "math", "vector", "answer"]
     taken = needed(crates, "calls")
     target = SIZE / "target"
     shutil.rmtree(SIZE, ignore_errors=True)

@@ -3,6 +3,8 @@
 #[link(name = "calls", kind = "static")]
 unsafe extern "C" {
     fn call_turn(mounting: u8, vector: *mut f32) -> u8;
+    fn call_rotate(mounting: u8, vector: *mut f32) -> u8;
+    fn call_to_matrix(mounting: u8, matrix: *mut f32) -> u8;
     fn call_compose(first: u8, second: u8) -> u8;
     fn call_inverse(mounting: u8) -> u8;
     fn call_write_name(mounting: u8, name: *mut u8, length: usize) -> u8;
@@ -22,8 +24,11 @@ fn main() {
     let mut name = *b"+X+Y+Z";
     let source = [1.5f32; 3000];
     let mut turned = [0f32; 3000];
+    let mut matrix = [0f32; 9];
     let sum = match arguments[1].as_str() {
         "turn" => made(count, |_, m| unsafe { call_turn(m, vector.as_mut_ptr()) }),
+        "rotate" => made(count, |_, m| unsafe { call_rotate(m, vector.as_mut_ptr()) }),
+        "to_matrix" => made(count, |_, m| unsafe { call_to_matrix(m, matrix.as_mut_ptr()) }),
         "compose" => made(count, |i, m| unsafe { call_compose(m, (i / 24 % 24) as u8) }),
         "inverse" => made(count, |_, m| unsafe { call_inverse(m) }),
         "write_name" => made(count, |_, m| unsafe { call_write_name(m, name.as_mut_ptr(), 6) }),
@@ -32,5 +37,5 @@ fn main() {
         "turn_run" => made(count, |_, m| unsafe { call_turn_run(m, source.as_ptr(), 3000, turned.as_mut_ptr(), 3000) }),
         other => panic!("no call {other}"),
     };
-    println!("{sum:020} {:08X}", vector[0].to_bits() ^ turned[2999].to_bits());
+    println!("{sum:020} {:08X}", vector[0].to_bits() ^ turned[2999].to_bits() ^ matrix[0].to_bits());
 }

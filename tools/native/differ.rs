@@ -39,7 +39,7 @@ impl Differ {
         let ours = self.port.call(r);
         same_answer("the answer", r, answer, &ours);
         match side(r[0] & !QUIET) {
-            Side::None => self.tally.plain += 1,
+            Side::None => self.tally.plain(r, answer),
             Side::Bias => self.estimator(r, answer.number, machine),
             Side::Ahrs => self.filter(r, answer.number, machine),
         }

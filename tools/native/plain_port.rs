@@ -4,6 +4,7 @@ use crate::geometry::geometry;
 use crate::machine::{Answer, gives};
 use crate::port::{choice, numbered, of_quaternion as of_q, of_vector as of_v, quaternion as q, said, vector as v};
 use crate::words::{bits, f, length, packed, unpacked};
+use gateweave::alignment::{self, MatrixRead};
 use gateweave::math::Matrix;
 use gateweave::remap::{self, MountingRead};
 use gateweave::{number, root, turning};
@@ -56,6 +57,11 @@ pub fn mountings(code: u32, a: &[u32]) -> Answer {
             let number = turning::turn_run(choice(a[0]), &given, &mut turned);
             Answer { number: number.into(), words: turned.into_iter().map(bits).collect() }
         }
+        0x56 => match alignment::to_matrix(choice(a[0])) {
+            MatrixRead::Read(m) => gives(of_m(m)),
+            MatrixRead::Refused(n) => numbered(n),
+        },
+        0x57 => said(alignment::rotate(v(&a[1..]), choice(a[0]))),
         _ => panic!("the script has a call {code:02X}"),
     }
 }

@@ -2,8 +2,10 @@
 
 use crate::axes::over;
 use crate::estimator::settings;
+use crate::machine::Answer;
 use crate::offsets::{given_settings, has_minus_zero};
 use crate::orientation::{hangs_on_order, is_far, is_zero, steps_beyond};
+use crate::plain::other_zero;
 use crate::record::Record;
 use crate::state::{ACCELERATION, LIMITS_USED, MAGNETIC, OVERRANGE, PRODUCT, QUATERNION, TIMEOUT};
 use crate::words::MINUS_ZERO;
@@ -89,6 +91,8 @@ tally! {
     changes "other calls of the filter",
     bias_changes "other calls of the estimator",
     plain "calls without a state",
+    rotated "of these, vectors turned by a matrix",
+    other_zero "to a zero of another sign than by remap",
     reads "reads beside an update or a reading",
     texts "states held to their text too",
     logs "logs",
@@ -150,6 +154,15 @@ impl Tally {
             self.end += u64::from(beyond == 0);
             self.beside_end += u64::from(beyond.abs() == 1);
             self.order += u64::from(hangs_on_order(&r[1..5]));
+        }
+    }
+
+    /// A call without a state.
+    pub fn plain(&mut self, r: &Record, answer: &Answer) {
+        self.plain += 1;
+        if r[0] == 0x57 && answer.number == 0 {
+            self.rotated += 1;
+            self.other_zero += u64::from(other_zero(&r[1..], answer));
         }
     }
 

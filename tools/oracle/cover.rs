@@ -2,9 +2,10 @@
 
 use crate::axes::over;
 use crate::estimator::settings;
-use crate::machine::Machine;
+use crate::machine::{Answer, Machine};
 use crate::offsets::{given, given_settings, has_minus_zero};
 use crate::orientation::{hangs_on_order, is_far, is_zero, steps_beyond};
+use crate::plain::other_zero;
 use crate::record::{QUIET, Record, call};
 use crate::state::{self, ACCELERATION, LIMITS_USED, MAGNETIC, OVERRANGE, PRODUCT, QUATERNION, TIMEOUT};
 use crate::words::{MINUS_ZERO, f};
@@ -40,8 +41,10 @@ impl Cover {
         let before = self.machine.ahrs.is_some().then(|| self.machine.ahrs_words());
         let bias = self.machine.bias.map(|b| state::of_bias(&b));
         let (axes, ignored) = (self.machine.axes, self.machine.ignored);
-        let number = self.machine.call(r).number;
+        let answer = self.machine.call(r);
+        let number = answer.number;
         self.count(&format!("{} {number}", call(code).unwrap().1), true);
+        self.matrices(r, &answer);
         self.zeros(r, number);
         self.records(r, number);
         if let Some(before) = &before {
@@ -65,6 +68,20 @@ impl Cover {
             }
             _ => (),
         }
+    }
+
+    /// Turns by a matrix: zeros whose sign is another than by `remap`, floats that a product might round, and which refusal wins.
+    fn matrices(&mut self, r: &Record, answer: &Answer) {
+        if r[0] & !QUIET != 0x57 {
+            return;
+        }
+        let taken = answer.number == 0;
+        let any = |holds: fn(f32) -> bool| r[2..5].iter().any(|w| holds(f(*w)));
+        self.count("> rotated to a zero of another sign", other_zero(&r[1..], answer));
+        self.count("> rotated to the same zeros", taken && answer.words.iter().any(|w| f(*w) == 0.0) && !other_zero(&r[1..], answer));
+        self.count("> rotated with a subnormal part", taken && any(f32::is_subnormal));
+        self.count("> rotated with the largest part", taken && any(|x| x.abs() == f32::MAX));
+        self.count("> rotation refused 4 before 5", answer.number == 4 && any(|x| !x.is_finite()));
     }
 
     /// The signs of zeros about the offset record.

@@ -107,6 +107,9 @@ impl Script<'_> {
         self.knocks();
         self.spells();
         self.refusals();
+        let any = self.random.below(24) as u32;
+        self.rotations(any);
+        self.rotations(24);
         let parts: [(u64, fn(&mut Self)); 5] =
             [(46, Self::edge), (60, Self::math), (68, Self::mounting), (88, Self::bias), (93, Self::fuzz)];
         for (percent, calls) in parts {
@@ -171,7 +174,7 @@ impl Script<'_> {
         self.put(code, &args);
     }
 
-    /// Every pair, every inverse, every name, once.
+    /// Every pair, every inverse, every name, every matrix, once.
     fn mountings(&mut self) {
         for a in 0..25 {
             for b in 0..25 {
@@ -180,19 +183,33 @@ impl Script<'_> {
             self.put(0x52, &[a]);
             self.put(0x50, &[a, bits(1.0), bits(-2.0), bits(0.5)]);
             self.put(0x50, &[a, 0, 0x8000_0000, 0]);
+            self.rotations(a);
             for len in 0..9 {
                 self.put(0x53, &[a, len]);
             }
         }
     }
 
+    /// The matrix of a mounting, and by it vectors that a product might change: the ends of the range, zeros of both signs, a NaN.
+    fn rotations(&mut self, number: u32) {
+        self.put(0x56, &[number]);
+        let [most, least, nan] = [f32::MAX, f32::MIN, f32::NAN].map(f32::to_bits);
+        for [x, y, z] in [[bits(1.0), bits(-2.0), bits(0.5)], [most, 1, least], [0, nan, 0]] {
+            self.put(0x57, &[number, x, y, z]);
+        }
+        for signs in 0..8 {
+            let [x, y, z] = [0, 1, 2].map(|i| (signs >> i) << 31);
+            self.put(0x57, &[number, x, y, z]);
+        }
+    }
+
     pub fn mounting(&mut self) {
         let r = &mut self.random;
         let number = if r.one_in(16) { r.any() } else { r.below(26) as u32 };
-        match r.below(8) {
-            0 => {
+        match r.below(10) {
+            n @ (0 | 8) => {
                 let args = [number, r.loose(), r.loose(), r.loose()];
-                self.put(0x50, &args);
+                self.put(if n == 0 { 0x50 } else { 0x57 }, &args);
             }
             1 => {
                 let second = r.below(25) as u32;
@@ -204,6 +221,7 @@ impl Script<'_> {
                 self.put(0x53, &[number, len]);
             }
             4 => self.name(),
+            9 => drop(self.put(0x56, &[number])),
             _ => self.run(number),
         }
     }
@@ -400,7 +418,7 @@ impl Script<'_> {
                 };
             }
         }
-        if (0x50..0x53).contains(&code) {
+        if matches!(code, 0x50..=0x52 | 0x56 | 0x57) {
             args[0] %= 26;
         }
         self.put(code, &args);

@@ -60,6 +60,8 @@ pub const CALLS: &[(u32, &str, &[Kind])] = &[
     (0x53, "mounting.name", &[W; 2]),
     (0x54, "mounting.named", &[W, B, B, B, B, B, B, B, B, B, B, B, B, B, B]),
     (0x55, "mounting.turn_run", &[W, W, W, F, F, F, F, F, F, F, F, F, F, F, F]),
+    (0x56, "mounting.to_matrix", &[W]),
+    (0x57, "mounting.rotate", &[W, F, F, F]),
     (0x60, "bias.with_settings", &[F; 4]),
     (0x61, "bias.set_settings", &[F; 4]),
     (0x62, "bias.update", &[F; 3]),

@@ -1,4 +1,4 @@
-// The calls of mountings: 50 to 55.
+// The calls of mountings: 50 to 57.
 use super::lent;
 use super::lent::BYTES;
 use super::record::RECORD;
@@ -72,6 +72,8 @@ pub(crate) fn answer(call: u32, record: &[u8]) -> Said {
         0x53 => name(record),
         0x54 => named(record),
         0x55 => turn_run(record),
+        0x56 => said::matrix_read(alignment::to_matrix(mounting)),
+        0x57 => said::answer(alignment::rotate(vector_at(record, 2), mounting)),
         _ => said::number(1),
     }
 }

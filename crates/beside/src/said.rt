@@ -1,5 +1,6 @@
 // What a call says: a number of the refusal table, and the words of its answer.
 use super::words::Words;
+use alignment::MatrixRead;
 use answer::Answer;
 use math::Matrix;
 use math::Quaternion;
@@ -48,6 +49,13 @@ pub(crate) fn quaternion(q: Quaternion) -> Said {
 
 pub(crate) fn matrix(m: Matrix) -> Said {
     words(Words::none().matrix(m))
+}
+
+pub(crate) fn matrix_read(read: MatrixRead) -> Said {
+    match read {
+        MatrixRead::Read(m) => matrix(m),
+        MatrixRead::Refused(n) => number(n),
+    }
 }
 
 pub(crate) fn mounting(mounting: MountingRead) -> Said {

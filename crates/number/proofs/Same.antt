@@ -20,7 +20,7 @@ above-zero : (n : ℕ) → ltb 0 (suc n) ≡ true
 above-zero n = leb·suc-suc 0 n ∙ leb·zero n
 
 -- zero plus ±b / c
-sum-left : (f : Format) (s t : Bool) (a b c : ℕ) → a ≡ 0 → Like (sum f s a t b c) (round f t b c)
+pub sum-left : (f : Format) (s t : Bool) (a b c : ℕ) → a ≡ 0 → Like (sum f s a t b c) (round f t b c)
 unfolding sum
 sum-left f true true a b c z = rw z (rw zero-add)
 sum-left f false false a b c z = rw z (rw zero-add)

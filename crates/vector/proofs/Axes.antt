@@ -35,7 +35,7 @@ place Ny = omega arith
 place Nz = omega arith
 
 -- the digits of three places
-abbrev Digits : ℕ → ℕ → ℕ → ℕ → Type 0
+abbrev pub Digits : ℕ → ℕ → ℕ → ℕ → Type 0
 Digits n a b c = (n / 1024 ≡ a) × (n / 32 % 32 ≡ b) × (n % 32 ≡ c)
 
 digits : (a b c : ℕ) → a < 6 → b < 6 → c < 6 → Digits (a * 1024 + b * 32 + c) a b c
@@ -50,7 +50,7 @@ signed v Ny = refl
 signed v Nz = refl
 
 module _ (m : Mounting) where
-  own : Digits (places m) (placeOf (m .x)) (placeOf (m .y)) (placeOf (m .z))
+  pub own : Digits (places m) (placeOf (m .x)) (placeOf (m .y)) (placeOf (m .z))
   own = digits _ _ _ (place (m .x)) (place (m .y)) (place (m .z))
 
   pub within : Within (places m)

@@ -1,0 +1,73 @@
+-- What 0, 1 and -1 do to a number of the format in a product, and 0 in a sum: nothing is rounded, and only the sign of a zero may change.
+-- Assumes nothing.
+use mathlib.Core.Path.{_≡_, refl, ap, ap₂, sym, _∙_}
+use mathlib.Core.Bool.{Bool, true, false, false≢true}
+use Prim.Native.Nat.{ℕ, zero, suc, _*_}
+use native.Mathlib.Nat.{zero-mul, one-mul, mul-one}
+use lib.IntN.{ℤ, pos}
+use lib.Dec.{T, eqb→eq}
+use lib.Ieee.{Float, nan, inf, fin, Format, up, down, unlike, round, neg, add, mul, fits}
+use lib.Ieee.Scale.{finite}
+use Rattle.number.specs.Same.{plain, Same}
+use Rattle.number.proofs.Signs.{round-zero, mul-neg}
+use Rattle.number.proofs.Same.{same-of, sum-left}
+use Rattle.number.proofs.Size.{nought, flat}
+use Rattle.number.proofs.Exact.{round-own}
+use Rattle.number.proofs.Plain as plain
+
+abbrev unit : Float
+unit = fin false 1 (pos 0)
+
+-- a number is the float of its own fraction
+own : (f : Format) (s : Bool) (m : ℕ) (e : ℤ) → T (fits f (fin s m e)) → round f s (m * up e) (down e) ≡ fin s m e
+unfolding fits
+own f s zero e t =
+    ap (λ (a : ℕ). round f s a (down e)) (zero-mul (up e))
+    ∙ round-zero f s (down e)
+    ∙ ap (λ (d : ℤ). fin s 0 d) (sym (flat e (eqb→eq (up e * down e) 1 t)))
+own f s (suc m) e t = round-own f s m e t
+
+-- ---- products
+
+pub zero-times : (f : Format) (x : Float) → finite x ≡ true → Same (mul f nought x) nought
+unfolding mul plain
+zero-times f nan h = absurd (false≢true h)
+zero-times f (inf s) h = absurd (false≢true h)
+zero-times f (fin s m e) h =
+    record { number = ap (λ (a : ℕ). plain (round f t a (1 * down e))) (zero-mul (m * up e)) ∙ ap plain (round-zero f t (1 * down e)) }
+  where
+    t : Bool
+    t = unlike false s
+
+sign : (s : Bool) → unlike false s ≡ s
+sign true = refl
+sign false = refl
+
+pub one-times : (f : Format) (x : Float) → T (fits f x) → mul f unit x ≡ x
+unfolding mul
+one-times f nan t = refl
+one-times f (inf s) t = ap inf (sign s)
+one-times f (fin s m e) t =
+    ap (λ (b : Bool). round f b (1 * (m * up e)) (1 * down e)) (sign s)
+    ∙ ap₂ (λ (a c : ℕ). round f s a c) (one-mul (m * up e)) (one-mul (down e))
+    ∙ own f s m e t
+
+pub minus-one-times : (f : Format) (x : Float) → T (fits f x) → mul f (neg unit) x ≡ neg x
+minus-one-times f x t = mul-neg f unit x ∙ ap neg (one-times f x t)
+
+-- ---- sums
+
+pub zero-plus : (f : Format) (x : Float) → T (fits f x) → Same (add f nought x) x
+unfolding add
+zero-plus f nan t = same-of refl
+zero-plus f (inf s) t = same-of refl
+zero-plus f (fin s m e) t =
+    record {
+      number =
+          sum-left f false s (0 * down e) (m * up e * 1) (1 * down e) (zero-mul (down e))
+          ∙ ap₂ (λ (a c : ℕ). plain (round f s a c)) (mul-one (m * up e)) (one-mul (down e))
+          ∙ ap plain (own f s m e t);
+    }
+
+pub plus-zero : (f : Format) (x : Float) → T (fits f x) → Same (add f x nought) x
+plus-zero f x t = record { number = ap plain (plain.plus-zero f x t) ∙ plain.plain-plain x }
