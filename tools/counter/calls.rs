@@ -12,7 +12,9 @@ unsafe extern "C" {
     fn call_turn_run(mounting: u8, source: *const f32, length: usize, turned: *mut f32, room: usize) -> u8;
 }
 
-/// So many calls, each with its number and its mounting; the sum of what they answer.
+/// So many calls, each with its number and its mounting; the sum of what they answer. A function for each call, so that the loop around one
+/// does not change with the others.
+#[inline(never)]
 fn made(count: u32, mut call: impl FnMut(u32, u8) -> u8) -> u64 {
     (0..count).map(|i| u64::from(call(i, (i % 24) as u8))).sum()
 }
@@ -27,14 +29,14 @@ fn main() {
     let mut matrix = [0f32; 9];
     let sum = match arguments[1].as_str() {
         "turn" => made(count, |_, m| unsafe { call_turn(m, vector.as_mut_ptr()) }),
-        "rotate" => made(count, |_, m| unsafe { call_rotate(m, vector.as_mut_ptr()) }),
-        "to_matrix" => made(count, |_, m| unsafe { call_to_matrix(m, matrix.as_mut_ptr()) }),
         "compose" => made(count, |i, m| unsafe { call_compose(m, (i / 24 % 24) as u8) }),
         "inverse" => made(count, |_, m| unsafe { call_inverse(m) }),
         "write_name" => made(count, |_, m| unsafe { call_write_name(m, name.as_mut_ptr(), 6) }),
         // The name is written before it is read.
         "read_name" => made(count, |_, m| unsafe { call_write_name(m, name.as_mut_ptr(), 6) + call_read_name(name.as_ptr(), 6) }),
         "turn_run" => made(count, |_, m| unsafe { call_turn_run(m, source.as_ptr(), 3000, turned.as_mut_ptr(), 3000) }),
+        "to_matrix" => made(count, |_, m| unsafe { call_to_matrix(m, matrix.as_mut_ptr()) }),
+        "rotate" => made(count, |_, m| unsafe { call_rotate(m, vector.as_mut_ptr()) }),
         other => panic!("no call {other}"),
     };
     println!("{sum:020} {:08X}", vector[0].to_bits() ^ turned[2999].to_bits() ^ matrix[0].to_bits());
