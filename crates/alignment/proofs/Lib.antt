@@ -7,4 +7,5 @@ pub mod Reading  -- the matrix by the places of a mounting
 pub mod Returning  -- what the calls' returns have to show; on Reading
 pub mod Refusing  -- the law of the table
 pub mod Determined  -- a result is the only one
+mod Bench  -- examples
 mod Wrong

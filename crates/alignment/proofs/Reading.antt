@@ -14,7 +14,7 @@ use Rattle.math.specs.declared.matrix.Matrix.{Matrix}
 use Rattle.math.specs.Matrices.{fromRowsOf}
 use Rattle.alignment.specs.Whole.{wholeOf}
 use Rattle.alignment.specs.Matrix.{floatsOf, toMatrixOf}
-use Rattle.alignment.specs.Inner.{signedAt, floatRow, rowAt, matrixBy}
+use Rattle.alignment.specs.Inner.{firstFive, signedAt, floatRow, rowAt, matrixBy}
 
 -- ---- rows and places
 
@@ -27,7 +27,7 @@ at-place Ny = refl
 at-place Nz = refl
 
 pub last-row : (place : ℕ) → Rest 5 place → floatRow Nz ≡ rowAt place
-last-row place r = ap floatRow (sym (List·getD-eq-default (Px ∷ Py ∷ Pz ∷ Nx ∷ Ny ∷ []) Nz (past 5 place r)))
+last-row place r = ap floatRow (sym (List·getD-eq-default firstFive Nz (past 5 place r)))
 
 pub by-rows : {a b c x y z : List Float} → a ≡ x → b ≡ y → c ≡ z → fromRowsOf (a ∷ b ∷ c ∷ []) ≡ fromRowsOf (x ∷ y ∷ z ∷ [])
 by-rows p q r = λ i. fromRowsOf (p i ∷ q i ∷ r i ∷ [])

@@ -9,9 +9,12 @@ use Rattle.math.specs.declared.matrix.Matrix.{Matrix}
 use Rattle.math.specs.Matrices.{fromRowsOf}
 use Rattle.alignment.specs.Matrix.{floatOf}
 
--- the last one stands for every later place
+abbrev pub firstFive : List Signed
+firstFive = Px ∷ Py ∷ Pz ∷ Nx ∷ Ny ∷ []
+
+-- the sixth stands for every later place
 abbrev pub signedAt : ℕ → Signed
-signedAt place = getD (Px ∷ Py ∷ Pz ∷ Nx ∷ Ny ∷ []) place Nz
+signedAt place = getD firstFive place Nz
 
 abbrev pub floatRow : Signed → List Float
 floatRow s = floatOf (rowOf s .x) ∷ floatOf (rowOf s .y) ∷ floatOf (rowOf s .z) ∷ []

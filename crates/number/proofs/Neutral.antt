@@ -1,12 +1,14 @@
 -- What 0, 1 and -1 do to a number of the format in a product, and 0 in a sum: nothing is rounded, and only the sign of a zero may change.
 -- Assumes nothing.
 use mathlib.Core.Path.{_≡_, refl, ap, ap₂, sym, _∙_}
-use mathlib.Core.Bool.{Bool, true, false, false≢true}
+use mathlib.Core.Bool.{Bool, true, false}
 use Prim.Native.Nat.{ℕ, zero, suc, _*_}
 use native.Mathlib.Nat.{zero-mul, one-mul, mul-one}
+use native.Mathlib.Omega.{arith}
 use lib.IntN.{ℤ, pos}
 use lib.Dec.{T, eqb→eq}
 use lib.Ieee.{Float, nan, inf, fin, Format, up, down, unlike, round, neg, add, mul, fits}
+use lib.Ieee.Fits.{mul-fits}
 use lib.Ieee.Scale.{finite}
 use Rattle.number.specs.Same.{plain, Same}
 use Rattle.number.proofs.Signs.{round-zero, mul-neg}
@@ -14,6 +16,7 @@ use Rattle.number.proofs.Same.{same-of, sum-left}
 use Rattle.number.proofs.Size.{nought, flat}
 use Rattle.number.proofs.Exact.{round-own}
 use Rattle.number.proofs.Plain as plain
+use Rattle.number.proofs.Zeros.{Zero, mul-zero}
 
 abbrev unit : Float
 unit = fin false 1 (pos 0)
@@ -27,17 +30,16 @@ own f s zero e t =
     ∙ ap (λ (d : ℤ). fin s 0 d) (sym (flat e (eqb→eq (up e * down e) 1 t)))
 own f s (suc m) e t = round-own f s m e t
 
+-- a zero is one of the two
+same-nought : (f : Format) (x : Float) → T (fits f x) → Zero x → Same x nought
+unfolding fits plain
+same-nought f (fin s zero e) t z = record { number = ap (λ (d : ℤ). fin false 0 d) (flat e (eqb→eq (up e * down e) 1 t)) }
+same-nought f (fin s (suc m) e) t z = absurd (omega arith)
+
 -- ---- products
 
 pub zero-times : (f : Format) (x : Float) → finite x ≡ true → Same (mul f nought x) nought
-unfolding mul plain
-zero-times f nan h = absurd (false≢true h)
-zero-times f (inf s) h = absurd (false≢true h)
-zero-times f (fin s m e) h =
-    record { number = ap (λ (a : ℕ). plain (round f t a (1 * down e))) (zero-mul (m * up e)) ∙ ap plain (round-zero f t (1 * down e)) }
-  where
-    t : Bool
-    t = unlike false s
+zero-times f x h = same-nought f (mul f nought x) (mul-fits f nought x) (mul-zero f nought x refl h)
 
 sign : (s : Bool) → unlike false s ≡ s
 sign true = refl
