@@ -15,12 +15,12 @@ use Rattle.number.proofs.Neutral.{zero-times, one-times, minus-one-times, zero-
 use Rattle.answer.specs.Refusals.{check, refusalOf}
 use Rattle.answer.proofs.Tests.{all-three}
 use Rattle.vector.specs.declared.Vector.{Vector}
-use Rattle.vector.specs.Vectors.{finiteVector}
+use Rattle.vector.specs.Vectors.{Singles, finiteVector}
 use Rattle.vector.specs.Mounting.{Signed, Px, Py, Pz, Nx, Ny, Nz, mountingOf, read}
 use Rattle.vector.specs.Determinant.{rowOf}
 use Rattle.vector.proofs.Turning.{each-permutes, finite-turned}
 use Rattle.alignment.specs.Matrix.{floatOf, toMatrixOf, rotateOf}
-use Rattle.alignment.specs.Laws.{Single, TurnsAlike, NoSeven}
+use Rattle.alignment.specs.Laws.{TurnsAlike, NoSeven}
 use Rattle.alignment.proofs.Entries.{nought, unit, minus-unit}
 
 -- ---- a term by its entry
@@ -57,7 +57,7 @@ module _ {x : Float} (t : T (fits binary32 x)) {a b c : Float} where
 
 -- ---- one row
 
-module _ (v : Vector) (t : Single v) (h : finiteVector v ≡ true) where
+module _ (v : Vector) (t : Singles v) (h : finiteVector v ≡ true) where
   each : (finite (v .x) ≡ true) × (finite (v .y) ≡ true) × (finite (v .z) ≡ true)
   unfolding finiteVector
   each = all-three (finite (v .x)) (finite (v .y)) (finite (v .z)) h

@@ -4,13 +4,12 @@ use mathlib.Core.Path.{_≡_}
 use mathlib.Core.Bool.{true, not}
 use mathlib.Core.List.{[], _∷_, _++_}
 use mathlib.Core.Logic.{_⊎_}
-use lib.Dec.{T}
 use lib.IntN.{ℤ, pos, negsuc}
-use lib.Ieee.{binary32, fits, neg}
+use lib.Ieee.{neg}
 use Rattle.number.specs.Float32.{zero, one}
 use Rattle.answer.specs.Refusals.{check, refusalOf}
 use Rattle.vector.specs.declared.Vector.{Vector}
-use Rattle.vector.specs.Vectors.{finiteVector}
+use Rattle.vector.specs.Vectors.{Singles, finiteVector}
 use Rattle.vector.specs.Mounting.{Signed, mountingOf}
 use Rattle.vector.specs.Determinant.{rowOf, determinant}
 use Rattle.vector.specs.Turned.{turnChecks, TurnedBy}
@@ -35,20 +34,14 @@ pub record Entries : Type 0 where
 
 -- ---- the turn
 
--- a vector of f32 numbers, as every `Vector` of the code is
-pub record Single (v : Vector) : Type 0 where
-  pub x : T (fits binary32 (v .x))
-  pub y : T (fits binary32 (v .y))
-  pub z : T (fits binary32 (v .z))
-
 -- of a finite vector the turn by the matrix is the turn, as numbers: zero's sign is ignored
 abbrev pub TurnsAlike : Type 0
-TurnsAlike = (n : ℕ) (v : Vector) → Single v → finiteVector v ≡ true → TurnedBy (mountingOf n) v (rotateOf n v)
+TurnsAlike = (n : ℕ) (v : Vector) → Singles v → finiteVector v ≡ true → TurnedBy (mountingOf n) v (rotateOf n v)
 
 -- 7 is no check: behind the two of a turn it would refuse nothing more
 abbrev pub NoSeven : Type 0
 NoSeven =
-    (n : ℕ) (v : Vector) → Single v
+    (n : ℕ) (v : Vector) → Singles v
     → refusalOf (turnChecks v n ++ (check 7 (not (finiteVector (rotateOf n v))) ∷ [])) ≡ refusalOf (turnChecks v n)
 
 -- ---- one mounting after another, and undone

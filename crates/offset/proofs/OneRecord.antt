@@ -15,12 +15,12 @@ use Rattle.number.specs.Same.{plain}
 use Rattle.number.proofs.Same.{same-finite}
 use Rattle.number.proofs.Plain.{plain-fits, plain-plain}
 use Rattle.vector.specs.declared.Vector.{Vector}
-use Rattle.vector.specs.Vectors.{finiteVector}
+use Rattle.vector.specs.Vectors.{Singles, finiteVector}
 use Rattle.wire.specs.Wire.{bitsOf}
 use Rattle.offset.specs.declared.Offset.{Offset}
 use Rattle.offset.specs.declared.RecordRead.the-variants.{Refused}
 use Rattle.offset.specs.Record.{offsetAt, recordSaid, bytesOf, floatBytes, recordOf, writeChecks}
-use Rattle.offset.specs.OneRecord.{Singles, Bytes, plainVector, SameOffset, Holds, SameBytes, SameNumbers, OneRecord}
+use Rattle.offset.specs.OneRecord.{Bytes, plainVector, SameOffset, Holds, SameBytes, SameNumbers, OneRecord}
 use Rattle.offset.proofs.Accepting.{good-passes}
 use Rattle.offset.proofs.ReadWritten.{same-offset, written-good}
 use Rattle.offset.proofs.WrittenRead.{record-back, read-good, read-offset}

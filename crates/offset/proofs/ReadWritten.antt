@@ -11,13 +11,13 @@ use lib.Ieee.Bits.{ofBits-toBits}
 use Rattle.answer.proofs.Answering.{is-new}
 use Rattle.number.specs.Same.{plain}
 use Rattle.number.proofs.Plain.{plain-fits}
-use Rattle.vector.specs.Vectors.{finiteVector}
+use Rattle.vector.specs.Vectors.{Singles, finiteVector}
 use Rattle.wire.specs.Wire.{bitsOf}
 use Rattle.wire.proofs.Laws.{digits}
 use Rattle.offset.specs.declared.Offset.{Offset}
 use Rattle.offset.specs.declared.RecordRead.the-variants.{Read}
 use Rattle.offset.specs.Record.{hasMark, storableVector, vectorAt, offsetAt, recordOf, recordLength, recordVersion, Reads}
-use Rattle.offset.specs.OneRecord.{Singles, plainVector, ReadWritten}
+use Rattle.offset.specs.OneRecord.{plainVector, ReadWritten}
 use Rattle.offset.proofs.Storable.{storable-plains}
 use Rattle.offset.proofs.Accepting.{Good, good-passes, writable}
 

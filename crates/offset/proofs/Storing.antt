@@ -8,11 +8,11 @@ use lib.Ieee.{Float, binary32, fits, ofBits}
 use Rattle.number.specs.Float32.{_⊕_, zero}
 use Rattle.number.specs.Same.{plain}
 use Rattle.number.proofs.Plain.{plus-zero}
+use Rattle.vector.specs.Vectors.{Singles}
 use Rattle.wire.specs.Wire.{putU16, putBits, bitsOf}
 use Rattle.wire.proofs.Laws.{spelled}
 use Rattle.offset.specs.declared.Offset.{Offset}
 use Rattle.offset.specs.Record.{recordOf}
-use Rattle.offset.specs.OneRecord.{Singles}
 
 abbrev pub marked : List ℕ → List ℕ
 marked s = set (set (set s 0 0x47) 1 0x4F) 2 0x46

@@ -4,22 +4,14 @@ use Prim.Native.Nat.{ℕ, _<_}
 use mathlib.Core.Path.{_≡_}
 use mathlib.Core.Bool.{true}
 use mathlib.Core.List.{List}
-use lib.Dec.{T}
 use lib.ListN.{length, getD}
-use lib.Ieee.{binary32, fits}
 use Rattle.number.specs.Same.{plain, Same}
 use Rattle.vector.specs.declared.Vector.{Vector}
-use Rattle.vector.specs.Vectors.{vector, finiteVector}
+use Rattle.vector.specs.Vectors.{Singles, vector, finiteVector}
 use Rattle.offset.specs.declared.Offset.{Offset}
 use Rattle.offset.specs.declared.RecordRead.{RecordRead}
 use Rattle.offset.specs.declared.RecordRead.the-variants.{Read}
 use Rattle.offset.specs.Record.{recordLength, Reads, Writes}
-
--- a vector of f32 numbers, as every `Vector` of the code is
-pub record Singles (v : Vector) : Type 0 where
-  pub x : T (fits binary32 (v .x))
-  pub y : T (fits binary32 (v .y))
-  pub z : T (fits binary32 (v .z))
 
 -- a list of bytes, as every `&[u8]` of the code is
 abbrev pub Bytes : List ℕ → Type 0

@@ -7,13 +7,14 @@ use Rattle.answer.specs.Refusals.{Check}
 use Rattle.answer.specs.Promises.{Changed}
 use Rattle.vector.specs.declared.Vector.{Vector}
 use Rattle.vector.specs.Mounting.{turnOf}
+use Rattle.vector.specs.Vectors.{Singles}
 use Rattle.remap.specs.Composition.{inverseOf}
 use Rattle.bias.specs.declared.Bias.{Bias}
 use Rattle.bias.specs.declared.Change.{Change}
 use Rattle.bias.specs.Estimator.{finiteBias, withOffset}
 use Rattle.offset.specs.declared.Offset.{Offset}
 use Rattle.offset.specs.Record.{mountingAt, vectorAt, recordChecks, recordLength, recordVersion, Writes}
-use Rattle.offset.specs.OneRecord.{Singles, plainVector}
+use Rattle.offset.specs.OneRecord.{plainVector}
 
 unfoldable pub reframedOf : Vector → ℕ → ℕ → Vector
 reframedOf v from to = turnOf to (turnOf (inverseOf from) v)

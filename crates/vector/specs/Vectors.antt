@@ -2,7 +2,8 @@
 use mathlib.Core.Bool.{Bool, cond, _&&_, _||_}
 use mathlib.Core.List.{List, [], _∷_}
 use lib.ListN.{getD}
-use lib.Ieee.{Float, nan, eq, lt, neg}
+use lib.Dec.{T}
+use lib.Ieee.{Float, binary32, nan, eq, lt, neg, fits}
 use lib.Ieee.Scale.{finite}
 use Rattle.number.specs.Float32.{_⊕_, _⊖_, _⊗_, _⊘_, zero, one}
 use Rattle.number.specs.Same.{fabsfOf}
@@ -17,6 +18,12 @@ zeroVector = vector zero zero zero
 
 abbrev pub onesVector : Vector
 onesVector = vector one one one
+
+-- a vector of f32 numbers, as every `Vector` of the code is
+pub record Singles (v : Vector) : Type 0 where
+  pub x : T (fits binary32 (v .x))
+  pub y : T (fits binary32 (v .y))
+  pub z : T (fits binary32 (v .z))
 
 unfoldable pub finiteVector : Vector → Bool
 finiteVector v = finite (v .x) && finite (v .y) && finite (v .z)
