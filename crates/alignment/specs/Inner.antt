@@ -3,18 +3,16 @@ use Prim.Native.Nat.{ℕ, _/_, _%_}
 use mathlib.Core.List.{List, [], _∷_}
 use lib.Ieee.{Float}
 use lib.ListN.{getD}
-use Rattle.vector.specs.Mounting.{Signed, Px, Py, Pz, Nx, Ny, Nz}
+use Rattle.vector.specs.Axes.{signedAxes}
+use Rattle.vector.specs.Mounting.{Signed, Nz}
 use Rattle.vector.specs.Determinant.{rowOf}
 use Rattle.math.specs.declared.matrix.Matrix.{Matrix}
 use Rattle.math.specs.Matrices.{fromRowsOf}
 use Rattle.alignment.specs.Matrix.{floatOf}
 
-abbrev pub firstFive : List Signed
-firstFive = Px ∷ Py ∷ Pz ∷ Nx ∷ Ny ∷ []
-
--- the sixth stands for every later place
+-- every later place has the last one
 abbrev pub signedAt : ℕ → Signed
-signedAt place = getD firstFive place Nz
+signedAt place = getD signedAxes place Nz
 
 abbrev pub floatRow : Signed → List Float
 floatRow s = floatOf (rowOf s .x) ∷ floatOf (rowOf s .y) ∷ floatOf (rowOf s .z) ∷ []
