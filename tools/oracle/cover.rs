@@ -75,10 +75,10 @@ impl Cover {
         if r[0] & !QUIET != 0x57 {
             return;
         }
-        let taken = answer.number == 0;
+        let (taken, other) = (answer.number == 0, other_zero(&r[1..], answer));
         let any = |holds: fn(f32) -> bool| r[2..5].iter().any(|w| holds(f(*w)));
-        self.count("> rotated to a zero of another sign", other_zero(&r[1..], answer));
-        self.count("> rotated to the same zeros", taken && answer.words.iter().any(|w| f(*w) == 0.0) && !other_zero(&r[1..], answer));
+        self.count("> rotated to a zero of another sign", other);
+        self.count("> rotated to the same zeros", taken && !other && answer.words.iter().any(|w| f(*w) == 0.0));
         self.count("> rotated with a subnormal part", taken && any(f32::is_subnormal));
         self.count("> rotated with the largest part", taken && any(|x| x.abs() == f32::MAX));
         self.count("> rotation refused 4 before 5", answer.number == 4 && any(|x| !x.is_finite()));
