@@ -5,7 +5,7 @@ use vector::Vector;
 ghost use mathlib.Core.Path.{_≡_};
 ghost use Rattle.answer.specs.Promises.{Answers};
 ghost use Rattle.vector.specs.Turned.{turnChecks, turnedAnswer};
-ghost use Rattle.alignment.specs.Inner.{rowAt, matrixBy};
+ghost use Rattle.alignment.specs.Inner.{matrixBy, Placed};
 ghost use Rattle.alignment.specs.Matrix.{toMatrixOf, rotateOf, matrixChecks, Gives};
 
 // A mounting's matrix, or a refusal's number.
@@ -14,25 +14,23 @@ pub enum MatrixRead {
     Refused(u8),
 }
 
-// The row of the signed axis at a place: X, Y, Z, and their negatives.
-fn row(place: u16) -> [f32; 3]
-    ensures { λ r. ⌜ r ≡ rowAt place ⌝ }
-{
-    match place {
-        0 => [1.0, 0.0, 0.0],
-        1 => [0.0, 1.0, 0.0],
-        2 => [0.0, 0.0, 1.0],
-        3 => [-1.0, 0.0, 0.0],
-        4 => [0.0, -1.0, 0.0],
-        _ => [0.0, 0.0, -1.0],
-    }
-}
-
-// A row for each body axis, by the place of what it reads.
+// The matrix by what each body axis reads. The row of each signed axis stands at its place: X, Y, Z, and their negatives.
 fn matrix_by(axes: u16) -> Matrix
+    requires { ⌜ Placed axes ⌝ }
     ensures { λ r. ⌜ r ≡ matrixBy axes ⌝ }
 {
-    Matrix::from_rows([row(axes / 1024), row(axes / 32 % 32), row(axes % 32)])
+    let rows = [
+        [1.0, 0.0, 0.0],
+        [0.0, 1.0, 0.0],
+        [0.0, 0.0, 1.0],
+        [-1.0, 0.0, 0.0],
+        [0.0, -1.0, 0.0],
+        [0.0, 0.0, -1.0],
+    ];
+    let x = (axes / 1024) as usize;
+    let y = (axes / 32 % 32) as usize;
+    let z = (axes % 32) as usize;
+    Matrix::from_rows([rows[x], rows[y], rows[z]])
 }
 
 // The matrix of a mounting: refused with 4 for a number above 23.

@@ -17,7 +17,7 @@ use Rattle.answer.proofs.Answering.{fails, passes, all-pass, refuses, gives}
 use Rattle.answer.proofs.Table.{by-the-table}
 use Rattle.answer.proofs.Tests.{one}
 use Rattle.vector.specs.declared.Vector.{Vector}
-use Rattle.vector.specs.Axes.{placeOf, signedAxes, places, noPlaces, axesOf}
+use Rattle.vector.specs.Axes.{placeOf, places, noPlaces, axesOf}
 use Rattle.vector.specs.Inner.{signedOf, readBy, Within}
 use Rattle.vector.specs.Mounting.{Signed, Px, Py, Pz, Nx, Ny, Nz, Mounting, mountingOf, read, turn, turnOf}
 use Rattle.vector.specs.Turned.{turnChecks, turnedAnswer, ExactlyWhen}
@@ -26,21 +26,13 @@ use Rattle.vector.proofs.Matched.{Rest, past}
 
 -- ---- digits and places
 
-place : (s : Signed) → placeOf s < 6
+pub place : (s : Signed) → placeOf s < 6
 place Px = omega arith
 place Py = omega arith
 place Pz = omega arith
 place Nx = omega arith
 place Ny = omega arith
 place Nz = omega arith
-
-pub at-place : (d s : Signed) → getD signedAxes (placeOf s) d ≡ s
-at-place d Px = refl
-at-place d Py = refl
-at-place d Pz = refl
-at-place d Nx = refl
-at-place d Ny = refl
-at-place d Nz = refl
 
 -- the digits of three places
 abbrev pub Digits : ℕ → ℕ → ℕ → ℕ → Type 0

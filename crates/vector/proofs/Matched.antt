@@ -5,7 +5,7 @@ use mathlib.Core.Path.{_≡_, ap, sym}
 use lib.Arith.{lt-of-le-ne}
 
 -- the arm of the number k, of a match that gives f of its number
-pub arm : {A : Type 0} (f : ℕ → A) {n k : ℕ} → n ≡ k → f k ≡ f n
+pub arm : (f : ℕ → ℕ) {n k : ℕ} → n ≡ k → f k ≡ f n
 arm f e = ap f (sym e)
 
 -- the number is none of 0, 1, .., k - 1: the shape of `c .match .rest`
