@@ -4,6 +4,7 @@ use mathlib.Core.Path.{_≡_, refl, ap, sym, subst, _∙_}
 use mathlib.Core.Bool.{Bool, true, false, not, cond}
 use Prim.Native.Nat.{ℕ, _+_, _*_, _/_, _%_, _<_}
 use native.Mathlib.Omega.{arith}
+use mathlib.Core.List.{map}
 use lib.Dec.{ltb}
 use lib.Ieee.{nan, neg}
 use lib.ListN.{getD}
@@ -17,7 +18,7 @@ use Rattle.answer.proofs.Answering.{fails, passes, all-pass, refuses, gives}
 use Rattle.answer.proofs.Table.{by-the-table}
 use Rattle.answer.proofs.Tests.{one}
 use Rattle.vector.specs.declared.Vector.{Vector}
-use Rattle.vector.specs.Axes.{placeOf, places, noPlaces, axesOf}
+use Rattle.vector.specs.Axes.{placeOf, signedAxes, places, noPlaces, axesOf}
 use Rattle.vector.specs.Inner.{signedOf, readBy, Within}
 use Rattle.vector.specs.Mounting.{Signed, Px, Py, Pz, Nx, Ny, Nz, Mounting, mountingOf, read, turn, turnOf}
 use Rattle.vector.specs.Turned.{turnChecks, turnedAnswer, ExactlyWhen}
@@ -33,6 +34,15 @@ place Pz = omega arith
 place Nx = omega arith
 place Ny = omega arith
 place Nz = omega arith
+
+-- what a list has of each signed axis stands at its place
+pub at-place : {A : Type 0} (f : Signed → A) (d : A) (s : Signed) → getD (map f signedAxes) (placeOf s) d ≡ f s
+at-place f d Px = refl
+at-place f d Py = refl
+at-place f d Pz = refl
+at-place f d Nx = refl
+at-place f d Ny = refl
+at-place f d Nz = refl
 
 -- the digits of three places
 abbrev pub Digits : ℕ → ℕ → ℕ → ℕ → Type 0

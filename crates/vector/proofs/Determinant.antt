@@ -1,7 +1,7 @@
 -- The mountings are all the triples of signed axes with determinant 1: tests that antt computes at all 216 triples. Assumes nothing.
 use Prim.Native.Nat.{ℕ, zero, suc, _<_}
 use native.Mathlib.Omega.{arith}
-use mathlib.Core.Path.{_≡_, refl, ap, sym, subst, _∙_}
+use mathlib.Core.Path.{_≡_, ap, sym, subst, _∙_}
 use mathlib.Core.Bool.{Bool, true, false, not, _&&_, _||_, Bool·beq}
 use mathlib.Core.List.{List, [], _∷_}
 use lib.Dec.{T, T-not, eqb, eqb→eq, eqb-refl}
@@ -11,23 +11,18 @@ use lib.Ieee.Fits.{and-i, and-l, and-r}
 use Rattle.vector.specs.Axes.{placeOf, signedAxes}
 use Rattle.vector.specs.Mounting.{Signed, Px, Py, Pz, Nx, Ny, Nz, Mounting, mounting, mountings, mountingOf}
 use Rattle.vector.specs.Determinant.{determinantOf, letterOf, Permutation, Numbered, AllOfDeterminantOne}
+use Rattle.vector.proofs.Axes.{at-place}
 use Rattle.vector.proofs.Turning.{beq-eq}
 
 -- ---- whether two mountings are the same
-
-at-place : (s : Signed) → getD signedAxes (placeOf s) Px ≡ s
-at-place Px = refl
-at-place Py = refl
-at-place Pz = refl
-at-place Nx = refl
-at-place Ny = refl
-at-place Nz = refl
 
 abbrev alike : Signed → Signed → Bool
 alike s t = eqb (placeOf s) (placeOf t)
 
 alike-eq : (s t : Signed) → T (alike s t) → s ≡ t
-alike-eq s t h = sym (at-place s) ∙ ap (λ (n : ℕ). getD signedAxes n Px) (eqb→eq (placeOf s) (placeOf t) h) ∙ at-place t
+alike-eq s t h =
+    let itself = at-place (λ (s : Signed). s) Px in
+    sym (itself s) ∙ ap (λ (n : ℕ). getD signedAxes n Px) (eqb→eq (placeOf s) (placeOf t) h) ∙ itself t
 
 abbrev same : Mounting → Mounting → Bool
 same m k = alike (m .x) (k .x) && (alike (m .y) (k .y) && alike (m .z) (k .z))
