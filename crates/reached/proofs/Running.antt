@@ -17,7 +17,7 @@ use Rattle.reached.specs.Reached.{Sound, StaysSound}
 use Rattle.reached.proofs.Accepting.{start-accepted, change-accepted, update-accepted, quaternion-accepted}
 use Rattle.reached.proofs.Sound.{updated-sound, startup-sound, fresh-sound, restarted-sound, settings-sound, period-sound, quaternion-sound}
 
-after-call : (s : Ahrs) → Sound s → (c : Call) → Sound (stepOf outlineOf s c .state)
+pub after-call : (s : Ahrs) → Sound s → (c : Call) → Sound (stepOf outlineOf s c .state)
 after-call s h (update g a m) =
     settled Sound (refusalOf (updateChecks s g a m)) (updatedOf s g a m) s h (λ e. updated-sound s h g a m (update-accepted s g a m e))
 after-call s h restart = settled Sound (refusalOf (stateChecks s)) (restartedOf s) s h (λ e. restarted-sound s h)
@@ -36,7 +36,7 @@ after-call s h (set-sample-period p) =
 after-call s h (set-quaternion q) =
     settled Sound (refusalOf (quaternionChecks s q)) (withQuaternion s q) s h (λ e. quaternion-sound s q h (quaternion-accepted s q e .0))
 
-started-sound : (t : Settings) → refusalOf (settingsChecks t) ≡ 0 → Sound (freshOf t (derivedOf t))
+pub started-sound : (t : Settings) → refusalOf (settingsChecks t) ≡ 0 → Sound (freshOf t (derivedOf t))
 started-sound t e =
     let a = start-accepted t e in
     fresh-sound t (derivedOf t) (a .known) (a .finite) (a .config) (a .timeout)

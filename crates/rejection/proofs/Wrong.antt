@@ -13,16 +13,19 @@ use Rattle.rejection.specs.Counts.{counted, resetOf, movedOf, updatedOf,
 abbrev after : ℕ → ℕ → Bool → Updated
 after trigger threshold used = record { counts = counted (pos trigger) (pos threshold); used = used }
 
--- T = 3, trigger 3, over the limit: clamped before compared, so that recovery never begins; a trigger left above T; and a good reading that falls by 8
+-- T = 3, trigger 3, over the limit: clamped before compared, so that recovery never begins; a trigger left above T. T = 20, in recovery: a good reading that
+-- falls by 8; and one that ends it, yet leaves the threshold at 0
 pub of-update
     : (after 3 3 false ≡ updatedOf (pos 3) (counted (pos 3) (pos 3)) true → ⊥)
     × (after 4 0 true ≡ updatedOf (pos 3) (counted (pos 3) (pos 3)) true → ⊥)
     × (after 12 0 true ≡ updatedOf (pos 20) (counted (pos 20) (pos 0)) false → ⊥)
+    × (after 0 0 true ≡ updatedOf (pos 20) (counted (pos 2) (pos 0)) false → ⊥)
 unfolding updatedOf movedOf saturatedOf clampOf
 of-update = (
   λ h. let z : _≡_ {A = ℕ} 3 0 = ap (λ (s : Updated). mag (s .counts .threshold)) h in omega arith,
   λ h. let z : _≡_ {A = ℕ} 4 3 = ap (λ (s : Updated). mag (s .counts .trigger)) h in omega arith,
   λ h. let z : _≡_ {A = ℕ} 12 11 = ap (λ (s : Updated). mag (s .counts .trigger)) h in omega arith,
+  λ h. let z : _≡_ {A = ℕ} 0 20 = ap (λ (s : Updated). mag (s .counts .threshold)) h in omega arith,
 )
 
 -- from the largest number up: wrapped, and one too many

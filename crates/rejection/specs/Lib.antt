@@ -1,2 +1,4 @@
 pub mod Counts
 pub mod Inside
+pub mod Readings
+pub mod Recovery

@@ -1,0 +1,56 @@
+-- 02 P11, of the counts alone: a locked-out sensor always comes back. `reached/specs/Recovery` says the same of whole updates.
+use Prim.Native.Nat.{ℕ, _+_, _/_, _<_, _≤_, min}
+use mathlib.Core.Path.{_≡_}
+use mathlib.Core.Bool.{true, false}
+use mathlib.Core.List.{List}
+use lib.ListN.{replicate}
+use lib.IntN.{ℤ, pos}
+use Rattle.rejection.specs.declared.Counts.{Counts}
+use Rattle.rejection.specs.Counts.{counted, resetOf, recoveryOf}
+use Rattle.rejection.specs.Inside.{ZeroOr}
+use Rattle.rejection.specs.Readings.{Kind, good, over, all-zero, byKind, afterAll}
+
+-- freshly reset, and then n readings over the limit
+abbrev pub lockedOut : ℕ → ℕ → Counts
+lockedOut T n = afterAll (pos T) (resetOf (pos T)) (replicate n over)
+
+-- recovery has begun, and the trigger is T
+abbrev pub begun : ℕ → Counts
+begun T = counted (pos T) (pos 0)
+
+-- and then k good readings
+abbrev pub recovering : ℕ → ℕ → Counts
+recovering T k = afterAll (pos T) (begun T) (replicate k good)
+
+-- T / 9, rounded up
+abbrev pub ninth : ℕ → ℕ
+ninth T = (T + 8) / 9
+
+-- T from 0 to 2^31 - 2
+pub record ComesBack (T : ℕ) : Type 0 where
+  -- after n readings over the limit the trigger is the smaller of n and T
+  pub trigger : (n : ℕ) → lockedOut T n .trigger ≡ pos (min n T)
+  -- the first T of them are not used, and each later one is
+  pub ignored : (n : ℕ) → n < T → byKind (pos T) (lockedOut T n) over .used ≡ false
+  pub used : (n : ℕ) → T ≤ n → byKind (pos T) (lockedOut T n) over .used ≡ true
+  -- the first that is used begins recovery
+  pub begins : (n : ℕ) → T < n → lockedOut T n ≡ begun T
+  -- the flag up and the trigger at T are these counts and no others
+  pub begun-is : (c : Counts) → ZeroOr (pos T) (c .threshold) → recoveryOf c ≡ true → c .trigger ≡ pos T → c ≡ begun T
+  -- then good readings in a row do not end it before the one at T / 9, rounded up
+  pub not-sooner : (k : ℕ) → k < ninth T → recoveryOf (recovering T k) ≡ true
+  -- and that one does: from then on the counts are as freshly reset
+  pub ends : 1 ≤ T → (k : ℕ) → ninth T ≤ k → recovering T k ≡ resetOf (pos T)
+  -- a reading over the limit never ends it, whatever the trigger is
+  pub bad : 1 ≤ T → (c : Counts) → ZeroOr (pos T) (c .threshold) → recoveryOf c ≡ true → recoveryOf (byKind (pos T) c over .counts) ≡ true
+  -- a reading that is all zero changes neither trigger nor threshold
+  pub unread : (c : Counts) → byKind (pos T) c all-zero .counts ≡ c
+
+-- T = 2^31 - 1
+abbrev pub largest : ℤ
+largest = pos 2147483647
+
+-- freshly reset, and then whatever is read: the flag is down, and a reading over the limit is not used
+pub record NeverBegins : Type 0 where
+  pub down : (xs : List Kind) → recoveryOf (afterAll largest (resetOf largest) xs) ≡ false
+  pub ignored : (xs : List Kind) → byKind largest (afterAll largest (resetOf largest) xs) over .used ≡ false
