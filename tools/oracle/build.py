@@ -16,7 +16,7 @@ ORACLE = TOP / "tools/oracle"
 BUILD = TOP / "target/beside"
 SOURCES = TOP.parent / "shared/docs/src"
 PACKAGE = "librust-libm-dev"
-MODES = ("math", "mounting", "bias", "pole", "edge", "fuzz", "mix")
+MODES = ("math", "mounting", "bias", "pole", "locked", "edge", "fuzz", "mix")
 
 
 def takes_sources(arguments):

@@ -72,6 +72,7 @@ impl Script<'_> {
             "mounting" => self.mountings(),
             "bias" => self.records(),
             "sample" => self.sample(),
+            "locked" => self.longest(),
             _ => (),
         }
         while self.left > 0 {
@@ -80,6 +81,7 @@ impl Script<'_> {
                 "mounting" => self.mounting(),
                 "bias" => self.bias(),
                 "pole" | "sample" => self.pole(),
+                "locked" => self.locked(),
                 "edge" => self.edge(),
                 "fuzz" => self.fuzz(),
                 "mix" => self.mix(),

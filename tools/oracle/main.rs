@@ -10,6 +10,7 @@ mod generate;
 mod geometry;
 mod ignored;
 mod knock;
+mod locked;
 mod log;
 mod machine;
 mod offsets;
@@ -18,6 +19,7 @@ mod plain;
 mod random;
 mod record;
 mod recording;
+mod rows;
 #[path = "closed.rs"]
 mod rust;
 mod spell;
@@ -35,8 +37,9 @@ oracle cover                          what the calls of a script reach, counted
 oracle calls                          the number and the name of every call
 oracle log                            replay the log on standard input, a line for each record
 oracle make-log SEED COUNT            a log of up to COUNT records, some damaged in one place
+oracle rows                           the rows of the bench table of a sensor that is locked out
 
-MODE is math, mounting, bias, pole, edge, fuzz, mix (of all these) or sample (some of each).
+MODE is math, mounting, bias, pole, locked, edge, fuzz, mix (of all these but locked) or sample (some of each but locked).
 ";
 
 /// Each record of the script on standard input.
@@ -102,6 +105,7 @@ fn run() -> io::Result<()> {
             let (seed, count) = (number(&args, 1).expect("SEED"), number(&args, 2).expect("COUNT"));
             out.write_all(&recording::make(seed, count))?;
         }
+        Some("rows") => rows::print(&mut out)?,
         _ => out.write_all(HELP.as_bytes())?,
     }
     out.flush()

@@ -4,7 +4,9 @@ use ahrs::Axes;
 use ahrs::Change;
 use ahrs::Settings;
 use ahrs::Started;
+use ahrs::read::Flags;
 use ahrs::read::FlagsRead;
+use ahrs::read::InternalStates;
 use ahrs::read::StatesRead;
 use math::Quaternion;
 use vector::Vector;
@@ -15,13 +17,14 @@ pub(crate) enum Beginning {
     Never,
 }
 
-// What the acceleration's recovery shows: its flag, and the trigger as a fraction of the timeout.
-pub(crate) struct Recovery {
+// What is shown of a sensor's rejection: whether the last update ignored it, its recovery flag, and its trigger as a fraction of the timeout.
+pub(crate) struct Shown {
+    pub ignored: bool,
     pub flag: bool,
     pub ratio: f32,
 }
 
-// Limits of 10 degrees, and a timeout of a second.
+// Limits of 10 degrees.
 pub(crate) fn settings(sample_rate: f32, gain: f32, rejection_timeout: f32) -> Settings {
     Settings {
         sample_rate,
@@ -41,28 +44,54 @@ pub(crate) fn begin(settings: Settings) -> Beginning {
     }
 }
 
-// An update of a pole that stands still, its accelerometer reading (x, 0, z).
-fn still(state: Ahrs, x: f32, z: f32) -> Ahrs {
-    let reading = state.update(Vector::ZERO, Vector::new(x, 0.0, z), Vector::ZERO);
+// An update of a pole that stands still.
+fn still(state: Ahrs, accelerometer: Vector, magnetometer: Vector) -> Ahrs {
+    let reading = state.update(Vector::ZERO, accelerometer, magnetometer);
     reading.state
 }
 
 // The state after some such updates.
-pub(crate) fn after(state: Ahrs, x: f32, z: f32, updates: u32) -> Ahrs {
+pub(crate) fn held(state: Ahrs, accelerometer: Vector, magnetometer: Vector, updates: u32) -> Ahrs {
     let mut now = state;
     let mut n = 0;
     while n < updates {
-        now = still(now, x, z);
+        now = still(now, accelerometer, magnetometer);
         n += 1;
     }
     now
 }
 
-fn in_startup(state: Ahrs) -> bool {
+// The accelerometer reads (x, 0, z), and the magnetometer nothing.
+pub(crate) fn after(state: Ahrs, x: f32, z: f32, updates: u32) -> Ahrs {
+    held(state, Vector::new(x, 0.0, z), Vector::ZERO, updates)
+}
+
+fn flags(state: Ahrs) -> Flags {
     match state.flags() {
-        FlagsRead::Read(flags) => flags.startup,
-        FlagsRead::Refused(_) => false,
+        FlagsRead::Read(flags) => flags,
+        FlagsRead::Refused(_) => Flags {
+            startup: false,
+            overrange_recovery: Axes::NONE,
+            acceleration_recovery: false,
+            magnetic_recovery: false,
+        },
     }
+}
+
+fn states(state: Ahrs) -> InternalStates {
+    match state.internal_states() {
+        StatesRead::Read(states) => states,
+        StatesRead::Refused(_) => InternalStates {
+            accelerometer_ignored: false,
+            acceleration_recovery_trigger: 0.0,
+            magnetometer_ignored: false,
+            magnetic_recovery_trigger: 0.0,
+        },
+    }
+}
+
+fn in_startup(state: Ahrs) -> bool {
+    flags(state).startup
 }
 
 // Whether startup goes on after some updates.
@@ -86,7 +115,7 @@ pub(crate) fn judged(x: f32, z: f32, limit: f32) -> Verdict {
     match begin(limits) {
         Beginning::At(fresh) => {
             let skipped = fresh.skip_startup();
-            let state = still(skipped.state, x, z);
+            let state = after(skipped.state, x, z, 1);
             let acceleration = state.acceleration;
             let residual = acceleration.half_residual;
             Verdict {
@@ -116,22 +145,25 @@ pub(crate) fn turned(state: Ahrs, x: f32, y: f32, z: f32) -> Ahrs {
 
 // The axes that the flags show.
 pub(crate) fn over_range(state: Ahrs) -> Axes {
-    match state.flags() {
-        FlagsRead::Read(flags) => flags.overrange_recovery,
-        FlagsRead::Refused(_) => Axes::NONE,
+    flags(state).overrange_recovery
+}
+
+pub(crate) fn acceleration(state: Ahrs) -> Shown {
+    let states = states(state);
+    Shown {
+        ignored: states.accelerometer_ignored,
+        flag: flags(state).acceleration_recovery,
+        ratio: states.acceleration_recovery_trigger,
     }
 }
 
-pub(crate) fn shown(state: Ahrs) -> Recovery {
-    let flag = match state.flags() {
-        FlagsRead::Read(flags) => flags.acceleration_recovery,
-        FlagsRead::Refused(_) => false,
-    };
-    let ratio = match state.internal_states() {
-        StatesRead::Read(states) => states.acceleration_recovery_trigger,
-        StatesRead::Refused(_) => 0.0,
-    };
-    Recovery { flag, ratio }
+pub(crate) fn magnetic(state: Ahrs) -> Shown {
+    let states = states(state);
+    Shown {
+        ignored: states.magnetometer_ignored,
+        flag: flags(state).magnetic_recovery,
+        ratio: states.magnetic_recovery_trigger,
+    }
 }
 
 // T = 10 and five readings over the limit, so that the trigger is 5; then T = 3.

@@ -1,6 +1,7 @@
 // The bench: runs the root vectors of standard input and the rows of the bench table that are not proved, and prints a
 // line for each.
 mod filter;
+mod locked;
 mod roots;
 mod still;
 
@@ -10,6 +11,7 @@ use bias::Bias;
 use bias::BiasSettings;
 use bias::Started;
 use filter::Beginning;
+use filter::Shown;
 use libc::STDOUT_FILENO;
 use math::Quaternion;
 use offset::Offset;
@@ -215,7 +217,7 @@ fn print_startup() {
     );
 }
 
-fn print_shown(s: filter::Recovery) {
+fn print_shown(s: Shown) {
     say(b": ratio");
     bits(s.ratio);
     report(b", recovery flag up", s.flag);
@@ -227,7 +229,7 @@ fn print_after(name: &[u8], change: Change) {
     say(b", answer ");
     count(change.number as u64);
     let state = change.state;
-    print_shown(filter::shown(state));
+    print_shown(filter::acceleration(state));
 }
 
 // A zero of its own sensor and a refused reading leave it; a reading that is accepted, be it over the limit, and an overrange end the ratio above 1.
@@ -271,9 +273,66 @@ fn print_lowered() {
     };
     let state = filter::lowered(fresh);
     say(b"T lowered from 10 to 3 at trigger 5");
-    print_shown(filter::shown(state));
+    print_shown(filter::acceleration(state));
     print_readings(state);
     print_changes(state);
+}
+
+fn print_standing(name: &[u8], text: &[u8], s: Shown) {
+    say(name);
+    say(text);
+    if s.ignored {
+        say(b", ignored");
+    } else {
+        say(b", used");
+    }
+    print_shown(s);
+}
+
+fn print_story(name: &[u8], locked_out: Shown, begun: Shown, recovering: Shown, back: Shown) {
+    print_standing(name, b" over its limit, 500 readings", locked_out);
+    print_standing(name, b" over its limit, 501 readings", begun);
+    print_standing(name, b" then good, 55 readings", recovering);
+    print_standing(name, b" then good, 56 readings", back);
+}
+
+fn print_compass(start: Ahrs) {
+    let upright = Vector::new(0.0, 0.0, 1.0);
+    let west = Vector::new(0.0, 1.0, 0.0);
+    let s = locked::run(start, upright, west);
+    print_story(
+        b"compass",
+        filter::magnetic(s.locked_out),
+        filter::magnetic(s.begun),
+        filter::magnetic(s.recovering),
+        filter::magnetic(s.back),
+    );
+    say(b"compass left as it is, out of recovery ");
+    count(locked::lasts(s.begun, upright, west) as u64);
+    say(b" readings later\n");
+}
+
+fn print_accelerometer(start: Ahrs) {
+    let north = Vector::new(1.0, 0.0, 0.0);
+    let level = Vector::new(1.0, 0.0, 0.0);
+    let s = locked::run(start, level, north);
+    print_story(
+        b"accelerometer",
+        filter::acceleration(s.locked_out),
+        filter::acceleration(s.begun),
+        filter::acceleration(s.recovering),
+        filter::acceleration(s.back),
+    );
+}
+
+// T = 500 at 100 Hz, each sensor in turn.
+fn print_locked_out() {
+    let Beginning::At(fresh) = filter::begin(filter::settings(100.0, 0.5, 5.0)) else {
+        return;
+    };
+    let skipped = fresh.skip_startup();
+    print_compass(skipped.state);
+    print_accelerometer(skipped.state);
 }
 
 fn print_set(fresh: Ahrs, w: f32, x: f32) {
@@ -345,6 +404,7 @@ fn main() {
     print_knocks();
     print_startup();
     print_lowered();
+    print_locked_out();
     print_ends();
     print_overflow();
 }
