@@ -1,4 +1,4 @@
--- A locked-out sensor of the filter always comes back: `ComesBack`, `Unread` and `NeverBegins` hold. Each is the law of the counts, by `Hearing`.
+-- A locked-out sensor of the filter always comes back: `AlwaysBack`, `Unread` and `NeverBegins` hold. Each is the law of the counts, by `Hearing`.
 -- Assumes nothing.
 use Prim.Native.Nat.{ℕ, _<_, _≤_}
 use mathlib.Core.Path.{_≡_, refl, ap, sym, subst, _∙_}
@@ -23,7 +23,7 @@ use Rattle.reached.specs.Runs.{update, outlineOf}
 use Rattle.reached.specs.Reached.{Counted, Sound}
 use Rattle.reached.specs.Deaf.{Sensor, accelerometer, magnetometer}
 use Rattle.reached.specs.Hearing.{Heard, hears, heardIn, rejectionOf, residualAt, addedBy, Keeps}
-use Rattle.reached.specs.Recovery.{flagOf, Led, LockedOut, Over, ComesBack, Unread, NeverBegins}
+use Rattle.reached.specs.Recovery.{flagOf, Led, LockedOut, Over, AlwaysBack, Unread, NeverBegins}
 use Rattle.reached.proofs.Hearing.{Left, left-by, follows, adds}
 
 -- ---- what a sensor has
@@ -40,6 +40,9 @@ module _ {k : Sensor} {timeout : ℤ} {c : Counts} {s : Ahrs} where
   led : {xs : List Kind} → Led k timeout c xs s → Keeps k timeout (afterAll timeout c xs) s
   led {xs} l = subst (Keeps k timeout (afterAll timeout c xs)) (l .here) (follows k timeout c (l .start) (l .kept) (l .calls) xs (l .heard))
 
+  with-counts : {d : Counts} → Keeps k timeout c s → c ≡ d → Keeps k timeout d s
+  with-counts h e = record { timeout-is = h .timeout-is; counts-are = h .counts-are ∙ e }
+
 -- what it has after a reading
 heard-keeps
     : (k : Sensor) (timeout : ℤ) (c : Counts) (s : Ahrs) → Keeps k timeout c s → (g a m : Vector) (x : Kind) → heardIn k s (update g a m) ≡ hears x
@@ -51,7 +54,7 @@ heard-keeps k timeout c s h g a m x e =
 
 module _ (k : Sensor) (T : ℕ) (b : T < 2147483647) where
   law : counts.ComesBack T
-  law = laws.comes-back T b
+  law = laws.always-back T b
 
   adds-by
       : (n : ℕ) (s : Ahrs) → LockedOut k T n s → (used : Bool) → byKind (pos T) (counts.lockedOut T n) over .used ≡ used
@@ -75,29 +78,33 @@ module _ (k : Sensor) (T : ℕ) (b : T < 2147483647) where
         counts-are = law .begun-is (countsOf (rejectionOf k s)) (sound-threshold s h e) (sym (flag-tells k s) ∙ up) t;
       }
 
-  bad-stays
-      : 1 ≤ T → (s : Ahrs) → Sound s → s .config .«rejection_timeout» ≡ pos T → flagOf k s ≡ true
-      → (g a m : Vector) → Over k s g a m → flagOf k (stepOf outlineOf s (update g a m) .state) ≡ true
-  bad-stays one s h e up g a m o =
-      let c = countsOf (rejectionOf k s) in
-      flag-by (heard-keeps k (pos T) c s (record { timeout-is = e; counts-are = refl }) g a m over o)
-      ∙ law .bad one c (sound-threshold s h e) (sym (flag-tells k s) ∙ up)
+  -- in recovery, whatever the trigger is
+  module _ (s : Ahrs) (h : Sound s) (e : s .config .«rejection_timeout» ≡ pos T) (up : flagOf k s ≡ true) (g a m : Vector) (o : Over k s g a m) where
+    has : Keeps k (pos T) (countsOf (rejectionOf k s)) s
+    has = record { timeout-is = e; counts-are = refl }
 
-  with-counts : {c d : Counts} {s : Ahrs} → Keeps k (pos T) c s → c ≡ d → Keeps k (pos T) d s
-  with-counts h e = record { timeout-is = h .timeout-is; counts-are = h .counts-are ∙ e }
+    bad-added : addedBy k s g a m ≡ residualAt k s a m
+    bad-added =
+        adds k (pos T) _ s has g a m over o
+        ∙ ap (λ (b : Bool). cond b (residualAt k s a m) zeroVector) (law .bad-used _ (sound-threshold s h e) (sym (flag-tells k s) ∙ up))
 
-  pub comes-back : ComesBack k T
-  comes-back =
-      record {
-        trigger = λ n s l. ap (λ (c : Counts). c .trigger) (led l .counts-are) ∙ law .trigger n;
-        ignored = λ n s l p. adds-by n s l false (law .ignored n p);
-        used = λ n s l p. adds-by n s l true (law .used n p);
-        begins = λ n s l p. with-counts (led l) (law .begins n p);
-        begun-is = up-at;
-        not-sooner = λ n s l p. flag-by (led l) ∙ law .not-sooner n p;
-        ends = λ one n s l p. with-counts (led l) (law .ends one n p);
-        bad = bad-stays;
-      }
+    bad-stays : 1 ≤ T → flagOf k (stepOf outlineOf s (update g a m) .state) ≡ true
+    bad-stays one = flag-by (heard-keeps k (pos T) _ s has g a m over o) ∙ law .bad one _ (sound-threshold s h e) (sym (flag-tells k s) ∙ up)
+
+pub always-back : AlwaysBack
+always-back k T b =
+    let law = laws.always-back T b in
+    record {
+      trigger = λ n s l. ap (λ (c : Counts). c .trigger) (led l .counts-are) ∙ law .trigger n;
+      ignored = λ n s l p. adds-by k T b n s l false (law .ignored n p);
+      used = λ n s l p. adds-by k T b n s l true (law .used n p);
+      begins = λ n s l p. with-counts (led l) (law .begins n p);
+      begun-is = up-at k T b;
+      not-sooner = λ n s l p. flag-by (led l) ∙ law .not-sooner n p;
+      ends = λ one n s l p. with-counts (led l) (law .ends one n p);
+      bad-used = bad-added k T b;
+      bad = λ one s h e up g a m o. bad-stays k T b s h e up g a m o one;
+    }
 
 pub unread : Unread
 unread k s g a m e =
@@ -105,11 +112,11 @@ unread k s g a m e =
 
 -- ---- T = 2^31 - 1
 
-pub never-begins : (k : Sensor) → NeverBegins k
-never-begins k =
+pub never-begins : NeverBegins
+never-begins =
     record {
-      down = λ xs s l. flag-by (led l) ∙ laws.never-begins .down xs;
-      ignored = λ xs s l g a m o.
+      down = λ k xs s l. flag-by (led l) ∙ laws.never-begins .down xs;
+      ignored = λ k xs s l g a m o.
           adds k largest (afterAll largest (resetOf largest) xs) s (led l) g a m over o
           ∙ ap (λ (b : Bool). cond b (residualAt k s a m) zeroVector) (laws.never-begins .ignored xs);
     }

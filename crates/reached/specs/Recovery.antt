@@ -54,7 +54,7 @@ Recovering k T n now = Led k (pos T) (begun T) (replicate n good) now
 abbrev pub Over : Sensor → Ahrs → Vector → Vector → Vector → Type 0
 Over k s g a m = heardIn k s (update g a m) ≡ hears over
 
--- ---- T from 0 to 2^31 - 2
+-- ---- what holds of it
 
 pub record ComesBack (k : Sensor) (T : ℕ) : Type 0 where
   -- after n readings over the limit the trigger is the smaller of n and T
@@ -72,24 +72,32 @@ pub record ComesBack (k : Sensor) (T : ℕ) : Type 0 where
   pub not-sooner : (n : ℕ) (s : Ahrs) → Recovering k T n s → n < ninth T → flagOf k s ≡ true
   -- and that one does: the sensor is as freshly reset
   pub ends : 1 ≤ T → (n : ℕ) (s : Ahrs) → Recovering k T n s → ninth T ≤ n → Keeps k (pos T) (resetOf (pos T)) s
-  -- one over the limit never ends it, in any reached state
+  -- one over the limit adds its residual too, in any reached state, and never ends it
+  pub bad-used
+      : (s : Ahrs) → Sound s → s .config .«rejection_timeout» ≡ pos T → flagOf k s ≡ true
+      → (g a m : Vector) → Over k s g a m → addedBy k s g a m ≡ residualAt k s a m
   pub bad
       : 1 ≤ T → (s : Ahrs) → Sound s → s .config .«rejection_timeout» ≡ pos T → flagOf k s ≡ true
       → (g a m : Vector) → Over k s g a m → flagOf k (stepOf outlineOf s (update g a m) .state) ≡ true
 
--- one that is all zero changes neither trigger nor threshold, whatever T is
+-- T from 0 to 2^31 - 2
+abbrev pub AlwaysBack : Type 0
+AlwaysBack = (k : Sensor) (T : ℕ) → T < 2147483647 → ComesBack k T
+
+-- a reading that is all zero changes neither trigger nor threshold, whatever T is
 abbrev pub Unread : Type 0
 Unread =
     (k : Sensor) (s : Ahrs) (g a m : Vector) → heardIn k s (update g a m) ≡ hears all-zero
     → countsOf (rejectionOf k (stepOf outlineOf s (update g a m) .state)) ≡ countsOf (rejectionOf k s)
 
--- ---- T = 2^31 - 1, which stands for any timeout that is longer: freshly reset, and then whatever is read, recovery does not begin
+-- T = 2^31 - 1, to which every longer timeout is cut: from freshly reset, whatever is read, recovery does not begin
+pub record NeverBegins : Type 0 where
+  pub down : (k : Sensor) (xs : List Kind) (s : Ahrs) → Led k largest (resetOf largest) xs s → flagOf k s ≡ false
+  pub ignored
+      : (k : Sensor) (xs : List Kind) (s : Ahrs) → Led k largest (resetOf largest) xs s
+      → (g a m : Vector) → Over k s g a m → addedBy k s g a m ≡ zeroVector
 
-pub record NeverBegins (k : Sensor) : Type 0 where
-  pub down : (xs : List Kind) (s : Ahrs) → Led k largest (resetOf largest) xs s → flagOf k s ≡ false
-  pub ignored : (xs : List Kind) (s : Ahrs) → Led k largest (resetOf largest) xs s → (g a m : Vector) → Over k s g a m → addedBy k s g a m ≡ zeroVector
-
--- ---- who is freshly reset: in startup both sensors are, in every reached state; the first reading after it is that of the update in which startup ends
+-- ---- when it is freshly reset: in startup, in every reached state; the first reading that counts is that of the update in which startup ends
 
 abbrev pub FreshInStartup : Ahrs → Type 0
 FreshInStartup s = s .startup ≡ true → (k : Sensor) → countsOf (rejectionOf k s) ≡ resetOf (s .config .«rejection_timeout»)

@@ -3,11 +3,13 @@
 use Prim.Native.Nat.{ℕ, zero, suc}
 use mathlib.Core.Path.{_≡_, refl}
 use mathlib.Core.Bool.{cond}
+use mathlib.Core.List.{[], _∷_, _++_}
+use lib.ListN.{replicate}
 use lib.IntN.{pos}
 use Rattle.number.specs.Whole.{saturatedOf, clampOf}
 use Rattle.rejection.specs.declared.Counts.{Counts}
 use Rattle.rejection.specs.Counts.{resetOf, movedOf, updatedOf, recoveryOf}
-use Rattle.rejection.specs.Readings.{good, over, byKind}
+use Rattle.rejection.specs.Readings.{good, over, byKind, afterAll}
 use Rattle.rejection.specs.Recovery.{begun, recovering}
 
 -- readings over the limit until one is used, and good ones until the flag is down, of at most so many
@@ -33,3 +35,10 @@ rows = (
   record { locked-out = refl; recovers = refl; ends = refl },
   record { locked-out = refl; recovers = refl; ends = refl },
 )
+
+-- in a row: nine over the limit and a good one leave what a reset left, so that recovery does not begin
+pub once-in-ten
+    : (afterAll (pos 9) (resetOf (pos 9)) (replicate 9 over ++ (good ∷ [])) ≡ resetOf (pos 9))
+    × (afterAll (pos 500) (resetOf (pos 500)) (replicate 9 over ++ (good ∷ [])) ≡ resetOf (pos 500))
+unfolding updatedOf movedOf saturatedOf clampOf
+once-in-ten = (refl, refl)

@@ -1,8 +1,8 @@
--- A locked-out sensor always comes back: `ComesBack` and `NeverBegins` hold. A step from natural numbers leaves natural numbers, one law for each way that it
+-- A locked-out sensor always comes back: `AlwaysBack` and `NeverBegins` hold. A step from natural numbers leaves natural numbers, one law for each way that it
 -- may go; the rest is induction over the readings. Assumes nothing.
 use Prim.Native.Nat.{ℕ, zero, suc, _+_, _-_, _*_, _<_, _≤_, min}
 use native.Mathlib.Omega.{arith}
-use mathlib.Core.Path.{_≡_, refl, ap, ap₂, sym, _∙_}
+use mathlib.Core.Path.{_≡_, refl, ap, ap₂, sym, subst, _∙_}
 use mathlib.Core.Bool.{Bool, true, false, cond, false≢true}
 use mathlib.Core.Logic.{⊎-elim}
 use mathlib.Core.List.{List, [], _∷_}
@@ -17,7 +17,7 @@ use Rattle.rejection.specs.declared.Updated.{Updated}
 use Rattle.rejection.specs.Counts.{counted, resetOf, movedOf, settledOf, updatedOf, recoveryOf}
 use Rattle.rejection.specs.Inside.{NotBelow, ZeroOr}
 use Rattle.rejection.specs.Readings.{Kind, good, over, all-zero, byKind, afterAll}
-use Rattle.rejection.specs.Recovery.{lockedOut, begun, recovering, ninth, ComesBack, largest, NeverBegins}
+use Rattle.rejection.specs.Recovery.{lockedOut, begun, recovering, ninth, AlwaysBack, largest, NeverBegins}
 use Rattle.rejection.proofs.Inside.{stays-inside}
 
 abbrev at : ℕ → ℕ → Counts
@@ -161,38 +161,41 @@ raised h t b p = go (ltb 2147483647 (t + 1)) refl
     go true e = record { number = 2147483647; is = rw e; above = b }
     go false e = record { number = t + 1; is = rw e; above = omega arith }
 
--- then the threshold is 0, and the trigger is not
-settles : (T h m : ℕ) → 1 ≤ T → h < m → recoveryOf (settledOf (pos T) (pos h) (pos m) true .counts) ≡ true
+-- then the reading is used, the threshold is 0, and the trigger is not unless T is
+record Up (T : ℕ) (u : Updated) : Type 0 where
+  trigger : ℕ
+  is : u ≡ leaving (at trigger 0) true
+  some : 1 ≤ T → 0 < trigger
+
+settles : (T h m : ℕ) → h < m → Up T (settledOf (pos T) (pos h) (pos m) true)
 unfolding clampOf
-settles T h m o p = go (ltb T m) refl
+settles T h m p = go (ltb T m) refl
   where
-    go : (q : Bool) → ltb T m ≡ q → recoveryOf (settledOf (pos T) (pos h) (pos m) true .counts) ≡ true
-    go true e = rw (lt-ltb h m p, le-ltb m 0 (omega arith), e, lt-ltb 0 T o)
-    go false e = rw (lt-ltb h m p, le-ltb m 0 (omega arith), e, lt-ltb 0 m (omega arith))
+    go : (q : Bool) → ltb T m ≡ q → Up T (settledOf (pos T) (pos h) (pos m) true)
+    go true e = record { trigger = T; is = rw (lt-ltb h m p, le-ltb m 0 (omega arith), e); some = λ o. o }
+    go false e = record { trigger = m; is = rw (lt-ltb h m p, le-ltb m 0 (omega arith), e); some = λ o. omega arith }
 
-still-up : (T h : ℕ) → 1 ≤ T → h < 2147483647 → (t : ℤ) → ltZ (pos h) t ≡ true → recoveryOf (byKind (pos T) (counted t (pos h)) over .counts) ≡ true
+above : (T h : ℕ) → h < 2147483647 → (t : ℤ) → ltZ (pos h) t ≡ true → Up T (byKind (pos T) (counted t (pos h)) over)
 unfolding updatedOf movedOf
-still-up T h o b (negsuc n) up = absurd (false≢true up)
-still-up T h o b (pos t) up =
+above T h b (negsuc n) up = absurd (false≢true up)
+above T h b (pos t) up =
     let r = raised h t b (ltb-true h t up) in
-    ap (λ (z : ℤ). recoveryOf (settledOf (pos T) (pos h) z true .counts)) (r .is) ∙ settles T h (r .number) o (r .above)
+    subst (λ (z : ℤ). Up T (settledOf (pos T) (pos h) z true)) (sym (r .is)) (settles T h (r .number) (r .above))
 
-bad-stays
-    : (T : ℕ) → T < 2147483647 → 1 ≤ T → (c : Counts) → ZeroOr (pos T) (c .threshold) → recoveryOf c ≡ true
-    → recoveryOf (byKind (pos T) c over .counts) ≡ true
-bad-stays T b o c z up = ⊎-elim (λ e. at-threshold 0 (omega arith) e) (λ e. at-threshold T b e) z
+stays-up : (T : ℕ) → T < 2147483647 → (c : Counts) → ZeroOr (pos T) (c .threshold) → recoveryOf c ≡ true → Up T (byKind (pos T) c over)
+stays-up T b c z up = ⊎-elim (λ e. at-threshold 0 (omega arith) e) (λ e. at-threshold T b e) z
   where
-    at-threshold : (h : ℕ) → h < 2147483647 → c .threshold ≡ pos h → recoveryOf (byKind (pos T) c over .counts) ≡ true
+    at-threshold : (h : ℕ) → h < 2147483647 → c .threshold ≡ pos h → Up T (byKind (pos T) c over)
     at-threshold h l e =
-        ap (λ (z : ℤ). recoveryOf (byKind (pos T) (counted (c .trigger) z) over .counts)) e
-        ∙ still-up T h o l (c .trigger) (ap (λ (z : ℤ). ltZ z (c .trigger)) (sym e) ∙ up)
+        subst (λ (z : ℤ). Up T (byKind (pos T) (counted (c .trigger) z) over)) (sym e)
+        (above T h l (c .trigger) (ap (λ (z : ℤ). ltZ z (c .trigger)) (sym e) ∙ up))
 
 -- the threshold is not T, since the trigger is above it
 up-at : (T : ℕ) (c : Counts) → ZeroOr (pos T) (c .threshold) → recoveryOf c ≡ true → c .trigger ≡ pos T → c ≡ begun T
 up-at T c z up t = ⊎-elim (λ e. ap₂ counted t e) (λ e. absurd (false≢true (sym (le-ltb T T (omega arith)) ∙ sym (ap₂ ltZ e t) ∙ up))) z
 
-pub comes-back : (T : ℕ) → T < 2147483647 → ComesBack T
-comes-back T b =
+pub always-back : AlwaysBack
+always-back T b =
     record {
       trigger = λ n. ap (λ (c : Counts). c .trigger) (all-over T n b);
       ignored = λ n p. used-from T n b ∙ lt-leb T n p;
@@ -201,7 +204,10 @@ comes-back T b =
       begun-is = up-at T;
       not-sooner = λ k p. up-until T k (omega arith) p;
       ends = λ o k p. ends-by T T k o (omega arith) (omega arith) p;
-      bad = bad-stays T b;
+      bad-used = λ c z up. ap (λ (u : Updated). u .used) (stays-up T b c z up .is);
+      bad = λ o c z up.
+          let u = stays-up T b c z up in
+          ap (λ (u : Updated). recoveryOf (u .counts)) (u .is) ∙ lt-ltb 0 (u .trigger) (u .some o);
       unread = λ c. refl;
     }
 

@@ -26,7 +26,6 @@ recovering T k = afterAll (pos T) (begun T) (replicate k good)
 abbrev pub ninth : ℕ → ℕ
 ninth T = (T + 8) / 9
 
--- T from 0 to 2^31 - 2
 pub record ComesBack (T : ℕ) : Type 0 where
   -- after n readings over the limit the trigger is the smaller of n and T
   pub trigger : (n : ℕ) → lockedOut T n .trigger ≡ pos (min n T)
@@ -41,10 +40,15 @@ pub record ComesBack (T : ℕ) : Type 0 where
   pub not-sooner : (k : ℕ) → k < ninth T → recoveryOf (recovering T k) ≡ true
   -- and that one does: from then on the counts are as freshly reset
   pub ends : 1 ≤ T → (k : ℕ) → ninth T ≤ k → recovering T k ≡ resetOf (pos T)
-  -- a reading over the limit never ends it, whatever the trigger is
+  -- one over the limit is used too, whatever the trigger is, and never ends it
+  pub bad-used : (c : Counts) → ZeroOr (pos T) (c .threshold) → recoveryOf c ≡ true → byKind (pos T) c over .used ≡ true
   pub bad : 1 ≤ T → (c : Counts) → ZeroOr (pos T) (c .threshold) → recoveryOf c ≡ true → recoveryOf (byKind (pos T) c over .counts) ≡ true
   -- a reading that is all zero changes neither trigger nor threshold
   pub unread : (c : Counts) → byKind (pos T) c all-zero .counts ≡ c
+
+-- T from 0 to 2^31 - 2
+abbrev pub AlwaysBack : Type 0
+AlwaysBack = (T : ℕ) → T < 2147483647 → ComesBack T
 
 -- T = 2^31 - 1
 abbrev pub largest : ℤ
