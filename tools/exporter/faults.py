@@ -11,6 +11,7 @@ FAULTS = [
     ("trigger falls by 8", "rejection.rs", "saturating_sub(self.trigger, 9)", "saturating_sub(self.trigger, 8)", "updates"),
     ("recovery begins at the threshold", "rejection.rs", "if moved > self.threshold", "if moved >= self.threshold", "updates"),
     ("trigger clamped before it is compared", "rejection.rs", "if moved > self.threshold", "if trigger > self.threshold", "updates"),
+    ("threshold stays 0 after recovery", "rejection.rs", "threshold: timeout,\n            },\n            used", "threshold: self.threshold,\n            },\n            used", "updates"),
     ("recovery flag at the threshold", "rejection.rs", "self.trigger > self.threshold\n", "self.trigger >= self.threshold\n", "updates"),
     ("startup lasts at a gain that is equal", "step/rate.rs", "if fallen > gain", "if fallen >= gain", "updates"),
     ("overrange flag outlives startup", "step/rate.rs", "overrange_recovery: Axes::NONE,", "overrange_recovery,", "updates"),
