@@ -23,6 +23,8 @@ mod geometry;
 mod ignored;
 #[path = "../oracle/knock.rs"]
 mod knock;
+#[path = "../oracle/locked.rs"]
+mod locked;
 #[path = "../oracle/log.rs"]
 mod log;
 mod logs;
