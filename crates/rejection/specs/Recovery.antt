@@ -1,8 +1,8 @@
 -- 02 P11, of the counts alone: a locked-out sensor always comes back. `reached/specs/Recovery` says the same of whole updates.
-use Prim.Native.Nat.{ℕ, _+_, _/_, _<_, _≤_, min}
+use Prim.Native.Nat.{ℕ, zero, suc, _+_, _/_, _<_, _≤_, min}
 use mathlib.Core.Path.{_≡_}
-use mathlib.Core.Bool.{true, false}
-use mathlib.Core.List.{List}
+use mathlib.Core.Bool.{true, false, cond}
+use mathlib.Core.List.{List, [], _∷_, _++_}
 use lib.ListN.{replicate}
 use lib.IntN.{ℤ, pos}
 use Rattle.rejection.specs.declared.Counts.{Counts}
@@ -58,3 +58,28 @@ largest = pos 2147483647
 pub record NeverBegins : Type 0 where
   pub down : (xs : List Kind) → recoveryOf (afterAll largest (resetOf largest) xs) ≡ false
   pub ignored : (xs : List Kind) → byKind largest (afterAll largest (resetOf largest) xs) over .used ≡ false
+
+-- ---- by evaluation
+
+-- from freshly reset, readings over the limit until one is used; and in recovery from a trigger of T, good ones until the flag is down: how many, up to a most
+abbrev pub ignoredFrom : ℕ → Counts → ℕ → ℕ
+ignoredFrom T c zero = 0
+ignoredFrom T c (suc most) = let u = byKind (pos T) c over in cond (u .used) 0 (suc (ignoredFrom T (u .counts) most))
+
+abbrev pub lastsFrom : ℕ → Counts → ℕ → ℕ
+lastsFrom T c zero = 0
+lastsFrom T c (suc most) = cond (recoveryOf c) (suc (lastsFrom T (byKind (pos T) c good .counts) most)) 0
+
+pub record Row (T ignored lasts : ℕ) : Type 0 where
+  pub locked-out : ignoredFrom T (resetOf (pos T)) 600 ≡ ignored
+  pub recovers : lastsFrom T (begun T) 600 ≡ lasts
+  pub ends : recovering T lasts ≡ resetOf (pos T)
+
+pub record Examples : Type 0 where
+  pub none : Row 0 0 0
+  pub one : Row 1 1 1
+  pub nine : Row 9 9 1
+  pub ten : Row 10 10 2
+  pub five-hundred : Row 500 500 56
+  -- in a row: nine over the limit and a good one leave what a reset left
+  pub once-in-ten : afterAll (pos 500) (resetOf (pos 500)) (replicate 9 over ++ (good ∷ [])) ≡ resetOf (pos 500)
