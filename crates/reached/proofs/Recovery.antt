@@ -6,7 +6,6 @@ use mathlib.Core.Bool.{Bool, true, false, cond}
 use mathlib.Core.List.{List}
 use lib.IntN.{ℤ, pos}
 use Rattle.answer.specs.Runs.{stepOf}
-use Rattle.answer.proofs.Running.{kept}
 use Rattle.vector.specs.declared.Vector.{Vector}
 use Rattle.vector.specs.Vectors.{zeroVector}
 use Rattle.rejection.specs.declared.Counts.{Counts}
