@@ -17,8 +17,13 @@ pub(crate) enum Beginning {
     Never,
 }
 
+pub(crate) enum Sensor {
+    Accelerometer,
+    Compass,
+}
+
 // What is shown of a sensor's rejection: whether the last update ignored it, its recovery flag, and its trigger as a fraction of the timeout.
-pub(crate) struct Shown {
+pub(crate) struct Standing {
     pub ignored: bool,
     pub flag: bool,
     pub ratio: f32,
@@ -148,21 +153,20 @@ pub(crate) fn over_range(state: Ahrs) -> Axes {
     flags(state).overrange_recovery
 }
 
-pub(crate) fn acceleration(state: Ahrs) -> Shown {
+pub(crate) fn shown(state: Ahrs, sensor: Sensor) -> Standing {
+    let flags = flags(state);
     let states = states(state);
-    Shown {
-        ignored: states.accelerometer_ignored,
-        flag: flags(state).acceleration_recovery,
-        ratio: states.acceleration_recovery_trigger,
-    }
-}
-
-pub(crate) fn magnetic(state: Ahrs) -> Shown {
-    let states = states(state);
-    Shown {
-        ignored: states.magnetometer_ignored,
-        flag: flags(state).magnetic_recovery,
-        ratio: states.magnetic_recovery_trigger,
+    match sensor {
+        Sensor::Accelerometer => Standing {
+            ignored: states.accelerometer_ignored,
+            flag: flags.acceleration_recovery,
+            ratio: states.acceleration_recovery_trigger,
+        },
+        Sensor::Compass => Standing {
+            ignored: states.magnetometer_ignored,
+            flag: flags.magnetic_recovery,
+            ratio: states.magnetic_recovery_trigger,
+        },
     }
 }
 

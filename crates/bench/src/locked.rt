@@ -1,6 +1,7 @@
 // A sensor that is locked out and comes back, T = 500 at 100 Hz: readings over its limit until recovery has begun, and good ones until it has ended.
+use super::filter::Sensor;
 use super::filter::held;
-use super::filter::magnetic;
+use super::filter::shown;
 use ahrs::Ahrs;
 use vector::Vector;
 
@@ -36,7 +37,7 @@ pub(crate) fn lasts(begun: Ahrs, accelerometer: Vector, magnetometer: Vector) ->
     let mut state = begun;
     let mut n = 0;
     while n < MOST {
-        if !magnetic(state).flag {
+        if !shown(state, Sensor::Compass).flag {
             return n;
         }
         state = held(state, accelerometer, magnetometer, 1);

@@ -11,8 +11,10 @@ use bias::Bias;
 use bias::BiasSettings;
 use bias::Started;
 use filter::Beginning;
-use filter::Shown;
+use filter::Sensor;
+use filter::Standing;
 use libc::STDOUT_FILENO;
+use locked::Story;
 use math::Quaternion;
 use offset::Offset;
 use offset::RecordRead;
@@ -217,7 +219,7 @@ fn print_startup() {
     );
 }
 
-fn print_shown(s: Shown) {
+fn print_shown(s: Standing) {
     say(b": ratio");
     bits(s.ratio);
     report(b", recovery flag up", s.flag);
@@ -229,7 +231,7 @@ fn print_after(name: &[u8], change: Change) {
     say(b", answer ");
     count(change.number as u64);
     let state = change.state;
-    print_shown(filter::acceleration(state));
+    print_shown(filter::shown(state, Sensor::Accelerometer));
 }
 
 // A zero of its own sensor and a refused reading leave it; a reading that is accepted, be it over the limit, and an overrange end the ratio above 1.
@@ -273,12 +275,12 @@ fn print_lowered() {
     };
     let state = filter::lowered(fresh);
     say(b"T lowered from 10 to 3 at trigger 5");
-    print_shown(filter::acceleration(state));
+    print_shown(filter::shown(state, Sensor::Accelerometer));
     print_readings(state);
     print_changes(state);
 }
 
-fn print_standing(name: &[u8], text: &[u8], s: Shown) {
+fn print_standing(name: &[u8], text: &[u8], s: Standing) {
     say(name);
     say(text);
     if s.ignored {
@@ -289,50 +291,46 @@ fn print_standing(name: &[u8], text: &[u8], s: Shown) {
     print_shown(s);
 }
 
-fn print_story(name: &[u8], locked_out: Shown, begun: Shown, recovering: Shown, back: Shown) {
-    print_standing(name, b" over its limit, 500 readings", locked_out);
-    print_standing(name, b" over its limit, 501 readings", begun);
-    print_standing(name, b" then good, 55 readings", recovering);
-    print_standing(name, b" then good, 56 readings", back);
-}
-
-fn print_compass(start: Ahrs) {
-    let upright = Vector::new(0.0, 0.0, 1.0);
-    let west = Vector::new(0.0, 1.0, 0.0);
-    let s = locked::run(start, upright, west);
-    print_story(
-        b"compass",
-        filter::magnetic(s.locked_out),
-        filter::magnetic(s.begun),
-        filter::magnetic(s.recovering),
-        filter::magnetic(s.back),
+fn print_story(name: &[u8], sensor: Sensor, story: Story) {
+    print_standing(
+        name,
+        b" over its limit, 500 readings",
+        filter::shown(story.locked_out, sensor),
     );
-    say(b"compass left as it is, out of recovery ");
-    count(locked::lasts(s.begun, upright, west) as u64);
-    say(b" readings later\n");
-}
-
-fn print_accelerometer(start: Ahrs) {
-    let north = Vector::new(1.0, 0.0, 0.0);
-    let level = Vector::new(1.0, 0.0, 0.0);
-    let s = locked::run(start, level, north);
-    print_story(
-        b"accelerometer",
-        filter::acceleration(s.locked_out),
-        filter::acceleration(s.begun),
-        filter::acceleration(s.recovering),
-        filter::acceleration(s.back),
+    print_standing(
+        name,
+        b" over its limit, 501 readings",
+        filter::shown(story.begun, sensor),
+    );
+    print_standing(
+        name,
+        b" then good, 55 readings",
+        filter::shown(story.recovering, sensor),
+    );
+    print_standing(
+        name,
+        b" then good, 56 readings",
+        filter::shown(story.back, sensor),
     );
 }
 
-// T = 500 at 100 Hz, each sensor in turn.
+// T = 500 at 100 Hz: a compass that reads west for north, and an accelerometer that reads level for upright.
 fn print_locked_out() {
     let Beginning::At(fresh) = filter::begin(filter::settings(100.0, 0.5, 5.0)) else {
         return;
     };
     let skipped = fresh.skip_startup();
-    print_compass(skipped.state);
-    print_accelerometer(skipped.state);
+    let upright = Vector::new(0.0, 0.0, 1.0);
+    let north = Vector::new(1.0, 0.0, 0.0);
+    let west = Vector::new(0.0, 1.0, 0.0);
+    let compass = locked::run(skipped.state, upright, west);
+    print_story(b"compass", Sensor::Compass, compass);
+    say(b"compass left as it is, out of recovery ");
+    count(locked::lasts(compass.begun, upright, west) as u64);
+    say(b" readings later\n");
+    let level = Vector::new(1.0, 0.0, 0.0);
+    let accelerometer = locked::run(skipped.state, level, north);
+    print_story(b"accelerometer", Sensor::Accelerometer, accelerometer);
 }
 
 fn print_set(fresh: Ahrs, w: f32, x: f32) {
