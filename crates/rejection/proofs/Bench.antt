@@ -13,5 +13,5 @@ examples =
       nine = record { locked-out = refl; recovers = refl; ends = refl };
       ten = record { locked-out = refl; recovers = refl; ends = refl };
       five-hundred = record { locked-out = refl; recovers = refl; ends = refl };
-      once-in-ten = refl;
+      interrupted = refl;
     }

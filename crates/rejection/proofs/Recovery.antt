@@ -5,7 +5,7 @@ use native.Mathlib.Omega.{arith}
 use mathlib.Core.Path.{_≡_, refl, ap, ap₂, sym, subst, _∙_}
 use mathlib.Core.Bool.{Bool, true, false, cond, false≢true}
 use mathlib.Core.Logic.{⊎-elim}
-use mathlib.Core.List.{List, [], _∷_}
+use mathlib.Core.List.{List, [], _∷_, _++_}
 use lib.Dec.{ltb, leb}
 use lib.ListN.{replicate}
 use lib.IntN.{ℤ, pos, negsuc}
@@ -145,6 +145,15 @@ ends-by T t (suc k) o p b q = go (ltb 9 t) refl (λ l. ends-by T (t - 9) k (omeg
 up-until : (T k : ℕ) → T ≤ 2147483647 → k < ninth T → recoveryOf (recovering T k) ≡ true
 up-until T k b p = ap recoveryOf (goes-on T T k (omega arith) b (omega arith)) ∙ lt-ltb 0 (T - 9 * k) (omega arith)
 
+-- ---- a good reading before recovery has begun
+
+nine-off : (T : ℕ) → byKind (pos T) (at 9 T) good .counts ≡ at 0 T
+unfolding updatedOf movedOf saturatedOf clampOf
+nine-off T = rw (le-ltb T 0 (omega arith))
+
+nine-and-one : (T : ℕ) → T < 2147483647 → 9 ≤ T → afterAll (pos T) (resetOf (pos T)) (replicate 9 over ++ (good ∷ [])) ≡ at 0 T
+nine-and-one T b p = ap (λ (c : Counts). byKind (pos T) c good .counts) (all-over T 9 b ∙ locked-low T 9 p) ∙ nine-off T
+
 -- ---- a reading over the limit in recovery
 
 -- a trigger above the threshold stays above it
@@ -200,6 +209,7 @@ always-back T b =
       trigger = λ n. ap (λ (c : Counts). c .trigger) (all-over T n b);
       ignored = λ n p. used-from T n b ∙ lt-leb T n p;
       used = λ n p. used-from T n b ∙ le-leb T n p;
+      once-in-ten = nine-and-one T b;
       begins = λ n p. all-over T n b ∙ locked-high T n p;
       begun-is = up-at T;
       not-sooner = λ k p. up-until T k (omega arith) p;

@@ -32,6 +32,8 @@ pub record ComesBack (T : ℕ) : Type 0 where
   -- the first T of them are not used, and each later one is
   pub ignored : (n : ℕ) → n < T → byKind (pos T) (lockedOut T n) over .used ≡ false
   pub used : (n : ℕ) → T ≤ n → byKind (pos T) (lockedOut T n) over .used ≡ true
+  -- in a row: a good one in every ten keeps recovery from beginning
+  pub once-in-ten : 9 ≤ T → afterAll (pos T) (resetOf (pos T)) (replicate 9 over ++ (good ∷ [])) ≡ resetOf (pos T)
   -- the first that is used begins recovery
   pub begins : (n : ℕ) → T < n → lockedOut T n ≡ begun T
   -- the flag up and the trigger at T are these counts and no others
@@ -81,5 +83,5 @@ pub record Examples : Type 0 where
   pub nine : Row 9 9 1
   pub ten : Row 10 10 2
   pub five-hundred : Row 500 500 56
-  -- in a row: nine over the limit and a good one leave what a reset left
-  pub once-in-ten : afterAll (pos 500) (resetOf (pos 500)) (replicate 9 over ++ (good ∷ [])) ≡ resetOf (pos 500)
+  -- new settings in recovery set the threshold to T: a reading over the limit is not used again
+  pub interrupted : byKind (pos 500) (counted (pos 491) (pos 500)) over .used ≡ false
