@@ -36,11 +36,11 @@ use Rattle.reached.specs.Deaf.{atMost, reachedCount, reachedSince, HowLo
 -- ---- one sensor
 
 -- what a sensor's update gives to the feedback, and leaves of the count, by the mark that it leaves
-record Tells (count : ℕ) (f : Feedback) : Type 0 where
-  gives : f .«half_feedback» ≡ feedbackBy (f .rejection)
-  counts : f .rejection .«ignored_count» ≡ cond (f .rejection .ignored) (longerOf count) 0
+pub record Tells (count : ℕ) (f : Feedback) : Type 0 where
+  pub gives : f .«half_feedback» ≡ feedbackBy (f .rejection)
+  pub counts : f .rejection .«ignored_count» ≡ cond (f .rejection .ignored) (longerOf count) 0
 
-kept-tells : (count : ℕ) (v : Vector) (u : Updated) → Tells count (keptOf count v u)
+pub kept-tells : (count : ℕ) (v : Vector) (u : Updated) → Tells count (keptOf count v u)
 kept-tells count v u = record { gives = given (u .used); counts = counted (u .used) }
   where
     given : (b : Bool) → cond b v zeroVector ≡ cond (not b) zeroVector v

@@ -12,6 +12,7 @@ use Rattle.answer.proofs.Running.{settled}
 use Rattle.vector.specs.declared.Vector.{Vector}
 use Rattle.vector.specs.Vectors.{zeroVector, isZeroOf, normSquaredOf}
 use Rattle.rejection.specs.declared.Counts.{Counts}
+use Rattle.rejection.specs.declared.Updated.{Updated}
 use Rattle.rejection.specs.Counts as rejection
 use Rattle.rejection.specs.Readings.{Kind, good, over, all-zero, byKind, afterAll}
 use Rattle.settings.specs.Config.{derivedOf}
@@ -28,6 +29,7 @@ use Rattle.reached.specs.Runs.{Call, update, restart, skip-startup, set-
 use Rattle.reached.specs.Deaf.{Sensor, accelerometer, magnetometer, ofSensor, feedbackBy, reachedOf}
 use Rattle.reached.specs.Hearing.{residualAt, kindAt, Heard, hears, nothing, disturbed, heardIn, withHeard, heardOf}
 use Rattle.reached.specs.Hearing.{rejectionOf, Keeps, Follows, Adds}
+use Rattle.reached.proofs.Deaf.{kept-tells}
 
 -- ---- one sensor, out of startup
 
@@ -37,16 +39,15 @@ record By (timeout : ℤ) (c : Counts) (v : Vector) (x : Kind) (r : Rejection) :
   added : feedbackBy r ≡ cond (byKind timeout c x .used) v zeroVector
 
 module _ (timeout : ℤ) (r : Rejection) (v : Vector) where
-  given : (used : Bool) → cond (not used) zeroVector v ≡ cond used v zeroVector
-  given true = refl
-  given false = refl
+  added-by : (u : Updated) → feedbackBy (keptOf (r .«ignored_count») v u .rejection) ≡ cond (u .used) v zeroVector
+  added-by u = sym (kept-tells (r .«ignored_count») v u .gives)
 
   by-limit
       : (within : Bool)
       → By timeout (countsOf r) v (cond within good over)
       (keptOf (r .«ignored_count») v (rejection.updatedOf timeout (countsOf r) (not within)) .rejection)
-  by-limit true = record { counts = refl; added = given (rejection.updatedOf timeout (countsOf r) false .used) }
-  by-limit false = record { counts = refl; added = given (rejection.updatedOf timeout (countsOf r) true .used) }
+  by-limit true = record { counts = refl; added = added-by (rejection.updatedOf timeout (countsOf r) false) }
+  by-limit false = record { counts = refl; added = added-by (rejection.updatedOf timeout (countsOf r) true) }
 
   judged
       : (limit : Float) (none : Bool)
@@ -168,12 +169,11 @@ follows k timeout c s h (call ∷ cs) xs e =
 
 -- ---- what a reading adds
 
--- an update that is heard is accepted, in range and out of startup
-pub record Brought (k : Sensor) (s : Ahrs) (g a m : Vector) (x : Kind) : Type 0 where
-  pub number : refusalOf (updateChecks s g a m) ≡ 0
-  pub in-range : anyOf (overOf (s .config) g) ≡ false
-  pub out-of-startup : updatedOf s g a m .startup ≡ false
-  pub kind : kindAt k s a m ≡ x
+-- an update that is heard is in range and out of startup
+record Brought (k : Sensor) (s : Ahrs) (g a m : Vector) (x : Kind) : Type 0 where
+  in-range : anyOf (overOf (s .config) g) ≡ false
+  out-of-startup : updatedOf s g a m .startup ≡ false
+  kind : kindAt k s a m ≡ x
 
 -- of a reading, its kind
 abbrev kindOf : Kind → Heard → Kind
@@ -186,16 +186,16 @@ isReading (hears x) = true
 isReading nothing = false
 isReading disturbed = false
 
-pub brought : (k : Sensor) (s : Ahrs) (g a m : Vector) (x : Kind) → heardIn k s (update g a m) ≡ hears x → Brought k s g a m x
-brought k s g a m x e = go (refusalOf (updateChecks s g a m)) (anyOf (overOf (s .config) g)) (updatedOf s g a m .startup) refl refl refl e
+brought : (k : Sensor) (s : Ahrs) (g a m : Vector) (x : Kind) → heardIn k s (update g a m) ≡ hears x → Brought k s g a m x
+brought k s g a m x e = go (refusalOf (updateChecks s g a m)) (anyOf (overOf (s .config) g)) (updatedOf s g a m .startup) refl refl e
   where
     go
-        : (n : ℕ) (p q : Bool) → refusalOf (updateChecks s g a m) ≡ n → anyOf (overOf (s .config) g) ≡ p → updatedOf s g a m .startup ≡ q
+        : (n : ℕ) (p q : Bool) → anyOf (overOf (s .config) g) ≡ p → updatedOf s g a m .startup ≡ q
         → accepted n (cond (p || q) disturbed (hears (kindAt k s a m))) nothing ≡ hears x → Brought k s g a m x
-    go zero false false n p q e = record { number = n; in-range = p; out-of-startup = q; kind = ap (kindOf x) e }
-    go zero true q′ n p q e = absurd (false≢true (ap isReading e))
-    go zero false true n p q e = absurd (false≢true (ap isReading e))
-    go (suc n′) p′ q′ n p q e = absurd (false≢true (ap isReading e))
+    go zero false false f h e = record { in-range = f; out-of-startup = h; kind = ap (kindOf x) e }
+    go zero true q f h e = absurd (false≢true (ap isReading e))
+    go zero false true f h e = absurd (false≢true (ap isReading e))
+    go (suc n) p q f h e = absurd (false≢true (ap isReading e))
 
 pub adds : Adds
 adds k timeout c s h g a m x e =

@@ -13,7 +13,7 @@ pub mod Shown  -- the axes that went over and the counts are only shown
 pub mod Leaving  -- from an orientation of zero: no update, but a restart or a quaternion set
 pub mod Turned  -- what an accepted update makes of the orientation
 pub mod Orienting  -- when the orientation is zero, and what it is otherwise; on Turned, Leaving
-pub mod Hearing  -- a run leaves a sensor's counts as its readings do
+pub mod Hearing  -- a run leaves a sensor's counts as its readings do; on Deaf
 pub mod Fresh  -- in startup both sensors are as freshly reset; on Running, Hearing
 pub mod Recovery  -- a locked-out sensor always comes back; on Hearing
 mod Bench  -- the smallest rate that overflows; how long a sensor has been ignored
