@@ -27,8 +27,15 @@ two = ofBits binary32 0x4000_0000
 abbrev pub four : Float
 four = ofBits binary32 0x4080_0000
 
+abbrev pub half : Float
+half = ofBits binary32 0x3f00_0000
+
 abbrev pub quarter : Float
 quarter = ofBits binary32 0x3e80_0000
+
+-- the largest finite f32
+abbrev pub largest : Float
+largest = ofBits binary32 0x7f7f_ffff
 
 abbrev pub infinity : Float
 infinity = ofBits binary32 0x7f80_0000

@@ -4,6 +4,9 @@ ghost use lib.Ieee.{lt};
 ghost use lib.Ieee.Scale.{finite};
 ghost use Rattle.number.specs.Same.{fabsfOf};
 
+// The largest finite f32.
+pub const MAX: f32 = 340282350000000000000000000000000000000.0;
+
 // The size of x: its sign dropped, a zero's too.
 pub fn fabsf(x: f32) -> f32
     ensures { λ r. ⌜ r ≡ fabsfOf x ⌝ }

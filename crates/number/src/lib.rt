@@ -1,7 +1,8 @@
 // Numbers: the size of a float and whether it is finite, and whole numbers as the Rust converts, adds and clamps them.
-pub mod float; // float.rt: fabsf, is_larger, is_finite
+pub mod float; // float.rt: MAX, fabsf, is_larger, is_finite
 pub mod whole; // whole.rt: to_u32, to_i32, from_i32, saturating_add, saturating_sub, clamp
 
+pub use float::MAX;
 pub use float::fabsf;
 pub use float::is_finite;
 pub use float::is_larger;

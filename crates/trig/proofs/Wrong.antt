@@ -1,0 +1,161 @@
+-- Wrong answers that the promises refuse, each by evaluation. Assumes nothing.
+use Prim.Native.Nat.{ℕ, _+_}
+use mathlib.Core.Path.{_≡_, refl}
+use lib.Dec.{T}
+use lib.Ieee.{Float, nan, binary32, ofBits, toBits, le, lt, eq, neg, add, sum, mul, div, round, units, odd, ofInt}
+use Rattle.answer.specs.Refusals.{refusalOf}
+use Rattle.number.specs.Float32.{_⊗_, largest}
+use Rattle.number.specs.Same.{fabsfOf}
+use Rattle.number.proofs.Apart.{apart, bits, unlike, nought, one, half}
+use Rattle.trig.specs.declared.calls.Number.{Number}
+use Rattle.trig.specs.declared.calls.Number.the-variants.{Value, Refused}
+use Rattle.trig.specs.Series.{sineNum, sineDen, cosineNum, cosineDen}
+use Rattle.trig.specs.Degrees.{inTurn, turns, left, leftMinus, quarter, waveAt, sineAt, cosineAt, within}
+use Rattle.trig.specs.Fixed.{scaledOf, stageOf, sineFixedOf, cosineFixedOf, perDegreeOf}
+use Rattle.trig.specs.Wave.{gridOf, radiansOf, sizeOf, minusOf, floatOf, slopeOf, sinOf, cosOf}
+use Rattle.trig.specs.Limit.{rejectionThresholdOf}
+use Rattle.trig.specs.Calls.{Gives, AnswersNear}
+
+abbrev thirty : Float
+thirty = ofBits binary32 0x41f0_0000
+
+abbrev sixty : Float
+sixty = ofBits binary32 0x4270_0000
+
+abbrev ninety : Float
+ninety = ofBits binary32 0x42b4_0000
+
+-- 361 and 400
+abbrev beyond : Float
+beyond = ofBits binary32 0x43b4_8000
+
+abbrev far : Float
+far = ofBits binary32 0x43c8_0000
+
+-- 0.5001
+abbrev over-half : Float
+over-half = ofBits binary32 0x3f00_0690
+
+-- the tie of 45 degrees to the upper multiple, 360 degrees more
+pub of-turns : (turns 405 1 ≡ 5 → ⊥) × (turns 495 1 ≡ 6 → ⊥)
+unfolding turns
+of-turns = (λ h. unlike _ _ refl h, λ h. unlike _ _ refl h)
+
+-- ---- the sine and the cosine
+
+abbrev Sine : Float → Float → Type 0
+Sine x r = (r ≡ sinOf x) × (T (inTurn x) → T (within 23 r (sineAt x)))
+
+abbrev Cosine : Float → Float → Type 0
+Cosine x r = (r ≡ cosOf x) × (T (inTurn x) → T (within 23 r (cosineAt x)))
+
+-- by the bound alone, of 30: 0, 0.5001, -0.5, the cosine of it, NaN; a constant half of 90; of 210 the sine of 30; and of half a degree
+-- the angle times 9370365 / 2 ^ 29, a slope that is 200 too large
+pub of-sin
+    : (Sine thirty nought → ⊥)
+    × (Sine thirty over-half → ⊥)
+    × (Sine thirty (neg half) → ⊥)
+    × (Sine thirty (ofBits binary32 0x3f5d_b3d7) → ⊥)
+    × (Sine thirty nan → ⊥)
+    × (Sine ninety half → ⊥)
+    × (Sine (ofBits binary32 0x4352_0000) half → ⊥)
+    × (Sine half (ofBits binary32 0x3c0e_fafd) → ⊥)
+unfolding within waveAt turns left leftMinus quarter sineNum sineDen cosineNum cosineDen ofBits neg le lt eq
+of-sin = (λ h. h .1 tt, λ h. h .1 tt, λ h. h .1 tt, λ h. h .1 tt, λ h. h .1 tt, λ h. h .1 tt, λ h. h .1 tt, λ h. h .1 tt)
+
+-- of 60: 0, 0.5001, -0.5, its sine, NaN; a constant half of 0; and of 240 the cosine of 60
+pub of-cos
+    : (Cosine sixty nought → ⊥)
+    × (Cosine sixty over-half → ⊥)
+    × (Cosine sixty (neg half) → ⊥)
+    × (Cosine sixty (ofBits binary32 0x3f5d_b3d7) → ⊥)
+    × (Cosine sixty nan → ⊥)
+    × (Cosine nought half → ⊥)
+    × (Cosine (ofBits binary32 0x4370_0000) half → ⊥)
+unfolding within waveAt turns left leftMinus quarter sineNum sineDen cosineNum cosineDen ofBits neg le lt eq
+of-cos = (λ h. h .1 tt, λ h. h .1 tt, λ h. h .1 tt, λ h. h .1 tt, λ h. h .1 tt, λ h. h .1 tt, λ h. h .1 tt)
+
+-- 361 taken for 1; of 30 the f32 beside a half, which the bound would take
+pub of-both
+    : (Sine beyond (ofBits binary32 0x3c8e_f859) → ⊥)
+    × (Cosine beyond (ofBits binary32 0x3f7f_f605) → ⊥)
+    × (Sine thirty (ofBits binary32 0x3f00_0001) → ⊥)
+unfolding sinOf cosOf slopeOf floatOf sizeOf minusOf gridOf radiansOf sineFixedOf cosineFixedOf perDegreeOf scaledOf stageOf turns left leftMinus
+    fabsfOf le lt eq neg add sum mul div round units odd ofInt ofBits toBits
+of-both = (λ h. apart bits (h .0) refl, λ h. apart bits (h .0) refl, λ h. apart bits (h .0) refl)
+
+-- ---- the calls
+
+-- a number's code; a refusal's is beyond every pattern
+abbrev code : Number → ℕ
+code (Value v) = bits v
+code (Refused n) = 0x1_0000_0000 + n
+
+abbrev Says : (Float → Float) → Float → Number → Type 0
+Says f x r = Gives x (f x) r
+
+-- 30 and 60 refused; 400 refused with 5, with 7, and taken; NaN refused with 6, and taken; and answers of 0 and of 0.5001
+pub of-sin-degrees
+    : (Says sinOf thirty (Refused 6) → ⊥)
+    × (Says sinOf far (Refused 5) → ⊥)
+    × (Says sinOf far (Refused 7) → ⊥)
+    × (Says sinOf far (Value half) → ⊥)
+    × (Says sinOf nan (Refused 6) → ⊥)
+    × (Says sinOf nan (Value nan) → ⊥)
+    × (Says sinOf thirty (Value nought) → ⊥)
+    × (AnswersNear (sineAt thirty) (Value over-half) → ⊥)
+unfolding sinOf slopeOf floatOf sizeOf minusOf gridOf radiansOf sineFixedOf cosineFixedOf perDegreeOf scaledOf stageOf turns left leftMinus
+    fabsfOf le lt eq neg add sum mul div round units odd ofInt ofBits toBits refusalOf within waveAt quarter sineNum sineDen cosineNum cosineDen
+of-sin-degrees = (
+  λ h. apart code (h .exact) refl,
+  λ h. apart code (h .exact) refl,
+  λ h. apart code (h .exact) refl,
+  λ h. apart code (h .exact) refl,
+  λ h. apart code (h .exact) refl,
+  λ h. apart code (h .exact) refl,
+  λ h. apart code (h .exact) refl,
+  λ h. h,
+)
+
+pub of-cos-degrees
+    : (Says cosOf sixty (Refused 6) → ⊥)
+    × (Says cosOf far (Refused 5) → ⊥)
+    × (Says cosOf far (Refused 7) → ⊥)
+    × (Says cosOf far (Value half) → ⊥)
+    × (Says cosOf nan (Refused 6) → ⊥)
+    × (Says cosOf nan (Value nan) → ⊥)
+    × (Says cosOf sixty (Value nought) → ⊥)
+    × (AnswersNear (cosineAt sixty) (Value over-half) → ⊥)
+unfolding cosOf floatOf sizeOf minusOf gridOf radiansOf sineFixedOf cosineFixedOf scaledOf stageOf turns left leftMinus
+    le lt eq neg add sum div round units odd ofInt ofBits toBits refusalOf within waveAt quarter sineNum sineDen cosineNum cosineDen
+of-cos-degrees = (
+  λ h. apart code (h .exact) refl,
+  λ h. apart code (h .exact) refl,
+  λ h. apart code (h .exact) refl,
+  λ h. apart code (h .exact) refl,
+  λ h. apart code (h .exact) refl,
+  λ h. apart code (h .exact) refl,
+  λ h. apart code (h .exact) refl,
+  λ h. h,
+)
+
+-- ---- the limit
+
+-- of the angles 0 and -0.0 a limit of 0; of 30 no limit; of 90, whose limit is a quarter, the squared sine, and half the sine; of 400 the limit of 90
+pub of-rejection-threshold
+    : (nought ≡ rejectionThresholdOf nought → ⊥)
+    × (nought ≡ rejectionThresholdOf (neg nought) → ⊥)
+    × (largest ≡ rejectionThresholdOf thirty → ⊥)
+    × (one ≡ rejectionThresholdOf ninety → ⊥)
+    × (half ≡ rejectionThresholdOf ninety → ⊥)
+    × (half ⊗ half ≡ rejectionThresholdOf far → ⊥)
+unfolding rejectionThresholdOf sinOf slopeOf floatOf sizeOf minusOf gridOf radiansOf sineFixedOf cosineFixedOf perDegreeOf scaledOf stageOf turns left
+    leftMinus fabsfOf le lt eq neg add sum mul div round units odd ofInt ofBits toBits
+of-rejection-threshold = (
+  λ h. apart bits h refl,
+  λ h. apart bits h refl,
+  λ h. apart bits h refl,
+  λ h. apart bits h refl,
+  λ h. apart bits h refl,
+  λ h. apart bits h refl,
+)
