@@ -1,0 +1,3 @@
+-- in reading order
+mod Judging  -- what each arm of `is_right` has to show
+mod Wrong
