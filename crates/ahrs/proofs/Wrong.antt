@@ -19,6 +19,8 @@ use Rattle.vector.specs.Vectors.{vector, finiteVector, dotOf}
 use Rattle.math.specs.declared.quaternion.Quaternion.{Quaternion}
 use Rattle.math.specs.Quaternions.{quaternion, finiteQuaternion, normSquaredOf, normOf, normalizeOf}
 use Rattle.settings.specs.declared.Settings.{Settings}
+use Rattle.settings.specs.declared.limit.Limit.{Limit}
+use Rattle.settings.specs.declared.limit.Limit.the-variants.{Squared, Degrees}
 use Rattle.settings.specs.declared.config.Config.{Config}
 use Rattle.settings.specs.declared.axes.Axes.{Axes}
 use Rattle.step.specs.declared.Rejection.{Rejection}
@@ -44,18 +46,21 @@ use Rattle.ahrs.specs.Calls.{SettingsReads, QuaternionReads, VectorReads
 abbrev still : Vector
 still = vector nought nought nought
 
--- a rate and a convention, the rest ones
-abbrev at-rate : Float → ℕ → Settings
-at-rate r n =
+-- a rate, a convention and a limit of acceleration, the rest ones
+abbrev limited : Float → ℕ → Limit → Settings
+limited r n limit =
     record {
       «sample_rate» = r;
       convention = n;
       gain = one;
       «gyroscope_range» = one;
-      «acceleration_rejection_squared» = one;
-      «magnetic_rejection_squared» = one;
+      «acceleration_rejection» = limit;
+      «magnetic_rejection» = Squared one;
       «rejection_timeout» = one;
     }
+
+abbrev at-rate : Float → ℕ → Settings
+at-rate r n = limited r n (Squared one)
 
 -- T = 3 and a period of one, with overrange on above one or off
 abbrev three : Bool → Config
@@ -103,12 +108,13 @@ trigger s = mag (s .acceleration .«recovery_trigger»)
 abbrev started-up : Ahrs → ℕ
 started-up s = cond (s .startup) 1 0
 
--- a rate of -0.0 started; a convention of 3 refused for the NaN beside it
+-- a rate of -0.0 started, and an angle of 128 degrees; a convention of 3 refused for the NaN beside it
 pub of-start
     : (Starts (at-rate (fin true 0 (pos 0)) 0) (started.the-variants.Fresh (at-start 0)) → ⊥)
+    × (Starts (limited one 0 (Degrees (fin false 1 (pos 7)))) (started.the-variants.Fresh (at-start 0)) → ⊥)
     × (Starts (at-rate nan 3) (started.the-variants.Refused 5) → ⊥)
-unfolding refusalOf finiteSettings lt ofBits
-of-start = (λ h. unlike 0 6 refl (h .number), λ h. unlike 5 4 refl (h .number))
+unfolding refusalOf finiteSettings lt le eq ofBits
+of-start = (λ h. unlike 0 6 refl (h .number), λ h. unlike 0 6 refl (h .number), λ h. unlike 5 4 refl (h .number))
 
 -- of `update`, and of `update_lent`, whose promise is the same: a convention of 3 taken; refused, and its next state kept; a NaN found only in the answer
 pub of-update
@@ -285,12 +291,23 @@ abbrev conventionOf : settings.SettingsRead → ℕ
 conventionOf (settings.the-variants.Read t) = t .convention
 conventionOf (settings.the-variants.Refused n) = n
 
--- the settings of a state that is refused; another convention
+-- 1 where the limit of acceleration is an angle
+abbrev angles : Limit → ℕ
+angles (Squared x) = 0
+angles (Degrees x) = 1
+
+abbrev anglesOf : settings.SettingsRead → ℕ
+anglesOf (settings.the-variants.Read t) = angles (t .«acceleration_rejection»)
+anglesOf (settings.the-variants.Refused n) = n
+
+-- the settings of a state that is refused; another convention; a squared limit read as an angle
 pub of-settings
     : (SettingsReads (at-start 3) (settings.the-variants.Read (at-rate one 3)) → ⊥)
     × (SettingsReads (at-start 0) (settings.the-variants.Read (at-rate one 1)) → ⊥)
+    × (SettingsReads (at-start 0) (settings.the-variants.Read (limited one 0 (Degrees one))) → ⊥)
 unfolding refusalOf finiteState finiteSettings finiteConfig finiteQuaternion finiteVector finiteRejection
-of-settings = (λ h. unlike 0 4 refl (h .number), λ h. unlike 1 0 refl (ap conventionOf (h .exact)))
+of-settings =
+    (λ h. unlike 0 4 refl (h .number), λ h. unlike 1 0 refl (ap conventionOf (h .exact)), λ h. unlike 1 0 refl (ap anglesOf (h .exact)))
 
 -- the orientation of a state that is refused; another one
 pub of-quaternion

@@ -17,6 +17,7 @@ pub use change::Started;
 pub use lent::update_lent;
 pub use settings::Axes;
 pub use settings::Config;
+pub use settings::Limit;
 pub use settings::Settings;
 pub use step::Rejection;
 

@@ -2,6 +2,7 @@
 use ahrs::Ahrs;
 use ahrs::Axes;
 use ahrs::Change;
+use ahrs::Limit;
 use ahrs::Settings;
 use ahrs::Started;
 use ahrs::read::Flags;
@@ -29,17 +30,35 @@ pub(crate) struct Standing {
     pub ratio: f32,
 }
 
-// Limits of 10 degrees.
-pub(crate) fn settings(sample_rate: f32, gain: f32, rejection_timeout: f32) -> Settings {
+// The squared limit of 10 degrees.
+const TEN_DEGREES: f32 = 0.0075384225;
+
+// A limit of acceleration, and a magnetic one of 10 degrees.
+fn limited(
+    acceleration_rejection: Limit,
+    sample_rate: f32,
+    gain: f32,
+    rejection_timeout: f32,
+) -> Settings {
     Settings {
         sample_rate,
         convention: 0,
         gain,
         gyroscope_range: 2000.0,
-        acceleration_rejection_squared: 0.0075384225,
-        magnetic_rejection_squared: 0.0075384225,
+        acceleration_rejection,
+        magnetic_rejection: Limit::Squared(TEN_DEGREES),
         rejection_timeout,
     }
+}
+
+// Limits of 10 degrees.
+pub(crate) fn settings(sample_rate: f32, gain: f32, rejection_timeout: f32) -> Settings {
+    limited(
+        Limit::Squared(TEN_DEGREES),
+        sample_rate,
+        gain,
+        rejection_timeout,
+    )
 }
 
 pub(crate) fn begin(settings: Settings) -> Beginning {
@@ -115,9 +134,7 @@ pub(crate) struct Verdict {
 
 // Judges an accelerometer reading of (x, 0, z) by a squared limit.
 pub(crate) fn judged(x: f32, z: f32, limit: f32) -> Verdict {
-    let mut limits = settings(10.0, 0.5, 1.0);
-    limits.acceleration_rejection_squared = limit;
-    match begin(limits) {
+    match begin(limited(Limit::Squared(limit), 10.0, 0.5, 1.0)) {
         Beginning::At(fresh) => {
             let skipped = fresh.skip_startup();
             let state = after(skipped.state, x, z, 1);

@@ -1,4 +1,4 @@
-// The calls of the filter: 80 to 8F, and 92.
+// The calls of the filter: 80 to 92.
 use super::record::choice_at;
 use super::record::float_at;
 use super::record::quaternion_at;
@@ -10,6 +10,7 @@ use super::states::state_words;
 use super::words::Words;
 use ahrs::Ahrs;
 use ahrs::Change;
+use ahrs::Limit;
 use ahrs::Reading;
 use ahrs::Settings;
 use ahrs::Started;
@@ -38,17 +39,36 @@ pub(crate) struct Answered {
     pub said: Said,
 }
 
-// The angles of words 8 and 9 are for the Rust, which derives the two limits from them.
-fn settings_at(record: &[u8]) -> Settings {
+// With these two limits; what else there is of settings stands in the same words for either kind.
+fn settings_with(record: &[u8], acceleration: Limit, magnetic: Limit) -> Settings {
     Settings {
         sample_rate: float_at(record, 1),
         convention: choice_at(record, 2),
         gain: float_at(record, 3),
         gyroscope_range: float_at(record, 4),
-        acceleration_rejection_squared: float_at(record, 5),
-        magnetic_rejection_squared: float_at(record, 6),
+        acceleration_rejection: acceleration,
+        magnetic_rejection: magnetic,
         rejection_timeout: float_at(record, 7),
     }
+}
+
+// Words 5 and 6 are squared limits, but angles of calls 90 and 91. The angles of words 8 and 9 are for the Rust, which derives squared limits
+// from them.
+fn settings_at(record: &[u8], in_degrees: bool) -> Settings {
+    let acceleration = float_at(record, 5);
+    let magnetic = float_at(record, 6);
+    if in_degrees {
+        return settings_with(
+            record,
+            Limit::Degrees(acceleration),
+            Limit::Degrees(magnetic),
+        );
+    }
+    settings_with(
+        record,
+        Limit::Squared(acceleration),
+        Limit::Squared(magnetic),
+    )
 }
 
 // The state as a line shows it; none before a start.
@@ -192,7 +212,8 @@ fn said_of(ahrs: Ahrs, call: u32) -> Said {
 
 fn tell(ahrs: Ahrs, call: u32, record: &[u8]) -> Step {
     match call {
-        0x81 => changed(ahrs.set_settings(settings_at(record))),
+        0x81 => changed(ahrs.set_settings(settings_at(record, false))),
+        0x91 => changed(ahrs.set_settings(settings_at(record, true))),
         0x82 => changed(ahrs.set_sample_period(float_at(record, 1))),
         0x83 => changed(ahrs.restart()),
         0x84 => changed(ahrs.skip_startup()),
@@ -203,8 +224,8 @@ fn tell(ahrs: Ahrs, call: u32, record: &[u8]) -> Step {
 }
 
 // A start; one that is refused leaves the filter that was.
-fn start(filter: Filter, record: &[u8]) -> Answered {
-    match Ahrs::with_settings(settings_at(record)) {
+fn start(filter: Filter, settings: Settings) -> Answered {
+    match Ahrs::with_settings(settings) {
         Started::Fresh(fresh) => Answered {
             filter: Filter::At(fresh),
             said: said::number(0),
@@ -219,7 +240,10 @@ fn start(filter: Filter, record: &[u8]) -> Answered {
 // Before a start was accepted every other call is refused with 1.
 pub(crate) fn answer(filter: Filter, call: u32, record: &[u8]) -> Answered {
     if call == 0x80 {
-        return start(filter, record);
+        return start(filter, settings_at(record, false));
+    }
+    if call == 0x90 {
+        return start(filter, settings_at(record, true));
     }
     let Filter::At(ahrs) = filter else {
         return Answered {

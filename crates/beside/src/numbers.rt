@@ -1,4 +1,4 @@
-// The calls of numbers: 40 to 46.
+// The calls of numbers: 40 to 48.
 use super::record::float_at;
 use super::record::whole_at;
 use super::said;
@@ -16,6 +16,8 @@ pub(crate) fn answer(call: u32, record: &[u8]) -> Said {
         0x44 => said::float(number::from_i32(a)),
         0x45 => said::whole(number::saturating_add(a, b)),
         0x46 => said::whole(number::saturating_sub(a, b)),
+        0x47 => said::number_of(trig::sin_degrees(x)),
+        0x48 => said::number_of(trig::cos_degrees(x)),
         _ => said::number(1),
     }
 }

@@ -5,6 +5,7 @@ use answer::Answer;
 use math::Matrix;
 use math::Quaternion;
 use remap::MountingRead;
+use trig::Number;
 use vector::Vector;
 
 pub(crate) struct Said {
@@ -29,6 +30,13 @@ pub(crate) fn word(n: u32) -> Said {
 
 pub(crate) fn float(x: f32) -> Said {
     words(Words::none().float(x))
+}
+
+pub(crate) fn number_of(answer: Number) -> Said {
+    match answer {
+        Number::Value(x) => float(x),
+        Number::Refused(n) => number(n),
+    }
 }
 
 pub(crate) fn flag(flag: bool) -> Said {

@@ -5,14 +5,17 @@ use ahrs::Config;
 use ahrs::Rejection;
 use ahrs::Settings;
 
+// A limit is shown as the number that was given, squared or in degrees.
 pub(crate) fn settings_words(settings: Settings) -> Words {
+    let acceleration = settings.acceleration_rejection;
+    let magnetic = settings.magnetic_rejection;
     Words::none()
         .float(settings.sample_rate)
         .word(settings.convention as u32)
         .float(settings.gain)
         .float(settings.gyroscope_range)
-        .float(settings.acceleration_rejection_squared)
-        .float(settings.magnetic_rejection_squared)
+        .float(acceleration.given())
+        .float(magnetic.given())
         .float(settings.rejection_timeout)
 }
 

@@ -3,6 +3,7 @@ use super::READINGS;
 use super::row;
 use super::vector_at;
 use ahrs::Ahrs;
+use ahrs::Limit;
 use ahrs::Settings;
 use ahrs::Started;
 
@@ -36,8 +37,8 @@ pub(crate) fn start(log: &[f32]) -> Started {
         convention: 0,
         gain: log[9001],
         gyroscope_range: log[9002],
-        acceleration_rejection_squared: log[9003],
-        magnetic_rejection_squared: log[9004],
+        acceleration_rejection: Limit::Squared(log[9003]),
+        magnetic_rejection: Limit::Squared(log[9004]),
         rejection_timeout: log[9005],
     })
 }

@@ -17,6 +17,7 @@ use Rattle.math.specs.declared.quaternion.Quaternion.{Quaternion}
 use Rattle.math.specs.Quaternions.{finiteQuaternion}
 use Rattle.rejection.specs.Inside.{NotBelow}
 use Rattle.settings.specs.declared.Settings.{Settings}
+use Rattle.settings.specs.Limit.{finiteLimit, soundLimit}
 use Rattle.settings.specs.Config.{knownConvention, finiteSettings, soundSettings, derivedOf, finiteConfig, settingsChecks}
 use Rattle.ahrs.specs.declared.Ahrs.{Ahrs}
 use Rattle.ahrs.specs.Filter.{finiteState, updatedOf}
@@ -27,12 +28,12 @@ timeout-cut : (t : Settings) → finiteSettings t ≡ true → soundSettings t �
 unfolding finiteSettings derivedOf
 timeout-cut t f s =
     let (f5, timeout) = both _ (finite (t .«rejection_timeout»)) f in
-    let (f4, _) = both _ (finite (t .«magnetic_rejection_squared»)) f5 in
-    let (f3, _) = both _ (finite (t .«acceleration_rejection_squared»)) f4 in
+    let (f4, _) = both _ (finiteLimit (t .«magnetic_rejection»)) f5 in
+    let (f3, _) = both _ (finiteLimit (t .«acceleration_rejection»)) f4 in
     let (f2, _) = both _ (finite (t .«gyroscope_range»)) f3 in
     let (rate, _) = both (finite (t .«sample_rate»)) _ f2 in
     let (limits, least) = both _ (not (lt (t .«rejection_timeout») float.zero)) s in
-    let (first, _) = both _ (not (lt (t .«magnetic_rejection_squared») float.zero)) limits in
+    let (first, _) = both _ (soundLimit (t .«magnetic_rejection»)) limits in
     let (above, _) = both (lt float.zero (t .«sample_rate»)) _ first in
     product-cut (t .«sample_rate») (t .«rejection_timeout») rate timeout above (untrue (lt (t .«rejection_timeout») float.zero) least)
 
@@ -40,6 +41,7 @@ timeout-cut t f s =
 pub record Accepted (t : Settings) : Type 0 where
   pub known : knownConvention t ≡ true
   pub finite : finiteSettings t ≡ true
+  pub sound : soundSettings t ≡ true
   pub config : finiteConfig (derivedOf t) ≡ true
   pub timeout : NotBelow (pos 0) (derivedOf t .«rejection_timeout»)
 
@@ -51,6 +53,7 @@ start-accepted t e =
     record {
       known = k .0;
       finite = f .0;
+      sound = p .0;
       config = passed 6 (finiteConfig (derivedOf t)) [] (p .1) .0;
       timeout = timeout-cut t (f .0) (p .0);
     }
@@ -64,6 +67,7 @@ change-accepted s t e =
     record {
       known = both (knownConvention (s .settings)) (knownConvention t) (k .0) .1;
       finite = g;
+      sound = p .0;
       config = passed 6 (finiteConfig (derivedOf t)) [] (p .1) .0;
       timeout = timeout-cut t g (p .0);
     }

@@ -13,6 +13,7 @@ use Rattle.vector.specs.declared.Vector.{Vector}
 use Rattle.vector.specs.Vectors.{vector, finiteVector}
 use Rattle.math.specs.Quaternions.{finiteQuaternion, normSquaredOf, normOf, normalizeOf}
 use Rattle.settings.specs.declared.Settings.{Settings}
+use Rattle.settings.specs.declared.limit.Limit.the-variants.{Squared}
 use Rattle.settings.specs.Config.{finiteSettings, finiteConfig, limitOf, derivedOf}
 use Rattle.settings.specs.Axes.{overOf}
 use Rattle.step.specs.Sensor.{resetOf, longerOf, skippedOf, halfInclinationFeedbackOf, halfHeadingFeedbackOf, finiteRejection}
@@ -31,8 +32,8 @@ settings =
       convention = 0;
       gain = half;
       «gyroscope_range» = nought;
-      «acceleration_rejection_squared» = one;
-      «magnetic_rejection_squared» = one;
+      «acceleration_rejection» = Squared one;
+      «magnetic_rejection» = Squared one;
       «rejection_timeout» = one;
     }
 

@@ -22,6 +22,7 @@ use Rattle.rejection.specs.Counts as counts
 use Rattle.rejection.specs.Readings.{good, over}
 use Rattle.rejection.specs.Recovery.{ninth, largest}
 use Rattle.settings.specs.declared.Settings.{Settings}
+use Rattle.settings.specs.declared.limit.Limit.the-variants.{Squared}
 use Rattle.settings.specs.Config.{finiteSettings, finiteConfig, limitOf, derivedOf}
 use Rattle.settings.specs.Axes.{overOf}
 use Rattle.step.specs.Sensor.{residualOf, resetOf, longerOf, skippedOf, rejectedOf, halfInclinationFeedbackOf, halfHeadingFeedbackOf, finiteRejection}
@@ -43,8 +44,8 @@ settings timeout =
       convention = 0;
       gain = half;
       «gyroscope_range» = nought;
-      «acceleration_rejection_squared» = ofBits binary32 0x3bf7_04df;
-      «magnetic_rejection_squared» = ofBits binary32 0x3bf7_04df;
+      «acceleration_rejection» = Squared (ofBits binary32 0x3bf7_04df);
+      «magnetic_rejection» = Squared (ofBits binary32 0x3bf7_04df);
       «rejection_timeout» = ofBits binary32 timeout;
     }
 

@@ -4,10 +4,12 @@ use mathlib.Core.List.{List, [], _∷_}
 use lib.Dec.{leb}
 use lib.Ieee.{Float, binary32, ofBits, lt, ne, toSigned}
 use lib.Ieee.Scale.{finite}
-use Rattle.number.specs.Float32.{_⊖_, _⊗_, _⊘_, zero, one}
+use Rattle.number.specs.Float32.{_⊖_, _⊗_, _⊘_, zero, one, largest}
 use Rattle.answer.specs.Refusals.{Check, check, Exactly}
 use Rattle.settings.specs.declared.Settings.{Settings}
 use Rattle.settings.specs.declared.config.Config.{Config}
+use Rattle.settings.specs.declared.limit.Limit.{Limit}
+use Rattle.settings.specs.Limit.{finiteLimit, soundLimit, squaredOf}
 
 -- the startup gain begins at 10
 abbrev pub initialGain : Float
@@ -21,28 +23,24 @@ startupPeriod = ofBits binary32 0x4040_0000
 abbrev pub overrangeFactor : Float
 overrangeFactor = ofBits binary32 0x3f7a_e148
 
--- the largest finite f32
-abbrev pub largest : Float
-largest = ofBits binary32 0x7f7f_ffff
-
 -- the convention is at most 2
 abbrev pub knownConvention : Settings → Bool
 knownConvention s = leb (s .convention) 2
 
 unfoldable pub finiteSettings : Settings → Bool
 finiteSettings s =
-    finite (s .«sample_rate») && finite (s .gain) && finite (s .«gyroscope_range») && finite (s .«acceleration_rejection_squared»)
-    && finite (s .«magnetic_rejection_squared») && finite (s .«rejection_timeout»)
+    finite (s .«sample_rate») && finite (s .gain) && finite (s .«gyroscope_range») && finiteLimit (s .«acceleration_rejection»)
+    && finiteLimit (s .«magnetic_rejection») && finite (s .«rejection_timeout»)
 
--- the rate is above 0, and no squared limit or timeout is below 0
+-- the rate is above 0, no squared limit or timeout is below 0, and an angle is from 0 to 90
 abbrev pub soundSettings : Settings → Bool
 soundSettings s =
-    lt zero (s .«sample_rate») && not (lt (s .«acceleration_rejection_squared») zero) && not (lt (s .«magnetic_rejection_squared») zero)
+    lt zero (s .«sample_rate») && soundLimit (s .«acceleration_rejection») && soundLimit (s .«magnetic_rejection»)
     && not (lt (s .«rejection_timeout») zero)
 
 -- with gain 0.0 or timeout 0.0 both limits in use are the largest finite f32
-unfoldable pub limitOf : Settings → Float → Float
-limitOf s squared = cond (ne (s .gain) zero && ne (s .«rejection_timeout») zero) squared largest
+unfoldable pub limitOf : Settings → Limit → Float
+limitOf s limit = cond (ne (s .gain) zero && ne (s .«rejection_timeout») zero) (squaredOf limit) largest
 
 -- the product of rate and timeout may be infinite: it is not kept
 unfoldable pub derivedOf : Settings → Config
@@ -54,8 +52,8 @@ derivedOf s =
       «startup_gain_rate» = ((initialGain ⊖ s .gain) ⊘ startupPeriod) ⊗ period;
       «overrange_enabled» = lt zero (s .«gyroscope_range»);
       «overrange_threshold» = overrangeFactor ⊗ s .«gyroscope_range»;
-      «acceleration_rejection» = limitOf s (s .«acceleration_rejection_squared»);
-      «magnetic_rejection» = limitOf s (s .«magnetic_rejection_squared»);
+      «acceleration_rejection» = limitOf s (s .«acceleration_rejection»);
+      «magnetic_rejection» = limitOf s (s .«magnetic_rejection»);
       «rejection_timeout» = toSigned 31 (s .«sample_rate» ⊗ s .«rejection_timeout»);
     }
 

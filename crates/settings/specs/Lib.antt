@@ -1,2 +1,4 @@
+pub mod Limit
 pub mod Config
 pub mod Axes
+pub mod Angles

@@ -1,5 +1,6 @@
 // What is derived from the settings, and which settings are sound.
 use super::Axes;
+use super::Limit;
 use super::Settings;
 use vector::Vector;
 ghost use mathlib.Core.Path.{_≡_};
@@ -25,8 +26,6 @@ const STARTUP_PERIOD: f32 = 3.0;
 
 const OVERRANGE_FACTOR: f32 = 0.98;
 
-const MAX: f32 = 340282350000000000000000000000000000000.0;
-
 impl Settings {
     // Whether the convention is one of the three.
     pub fn is_known(self) -> bool
@@ -38,32 +37,36 @@ impl Settings {
     pub fn is_finite(self) -> bool
         ensures { λ r. ⌜ r ≡ finiteSettings self ⌝ }
     {
+        let acceleration = self.acceleration_rejection;
+        let magnetic = self.magnetic_rejection;
         number::is_finite(self.sample_rate)
             & number::is_finite(self.gain)
             & number::is_finite(self.gyroscope_range)
-            & number::is_finite(self.acceleration_rejection_squared)
-            & number::is_finite(self.magnetic_rejection_squared)
+            & acceleration.is_finite()
+            & magnetic.is_finite()
             & number::is_finite(self.rejection_timeout)
     }
 
-    // A rate above 0, and no limit or timeout below 0.
+    // A rate above 0, a limit of either kind in its range, and no timeout below 0.
     pub fn is_sound(self) -> bool
         ensures { λ r. ⌜ r ≡ soundSettings self ⌝ }
     {
+        let acceleration = self.acceleration_rejection;
+        let magnetic = self.magnetic_rejection;
         (self.sample_rate > 0.0)
-            & !(self.acceleration_rejection_squared < 0.0)
-            & !(self.magnetic_rejection_squared < 0.0)
+            & acceleration.is_sound()
+            & magnetic.is_sound()
             & !(self.rejection_timeout < 0.0)
     }
 
     // The limit in use: with gain or timeout 0.0 nothing is rejected.
-    fn limit(self, squared: f32) -> f32
-        ensures { λ r. ⌜ r ≡ limitOf self squared ⌝ }
+    fn limit(self, limit: Limit) -> f32
+        ensures { λ r. ⌜ r ≡ limitOf self limit ⌝ }
     {
         if (self.gain != 0.0) & (self.rejection_timeout != 0.0) {
-            return squared;
+            return limit.squared();
         }
-        MAX
+        number::MAX
     }
 
     // The Rust's `Config::new`.
@@ -71,6 +74,8 @@ impl Settings {
         ensures { λ r. ⌜ r ≡ derivedOf self ⌝ }
     {
         let sample_period = 1.0 / self.sample_rate;
+        let acceleration = self.acceleration_rejection;
+        let magnetic = self.magnetic_rejection;
         Config {
             sample_period,
             gain: self.gain,
@@ -78,8 +83,8 @@ impl Settings {
                 * sample_period,
             overrange_enabled: self.gyroscope_range > 0.0,
             overrange_threshold: OVERRANGE_FACTOR * self.gyroscope_range,
-            acceleration_rejection: self.limit(self.acceleration_rejection_squared),
-            magnetic_rejection: self.limit(self.magnetic_rejection_squared),
+            acceleration_rejection: self.limit(acceleration),
+            magnetic_rejection: self.limit(magnetic),
             rejection_timeout: number::to_i32(self.sample_rate * self.rejection_timeout),
         }
     }

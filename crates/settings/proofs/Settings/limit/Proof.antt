@@ -5,4 +5,4 @@ use Rattle.settings.proofs.Settings.limit.Tie as tie
 
 pub limit-spec : {M : Type 1} → statement M
 unfolding limitOf
-limit-spec = tie.close (tie.spec (λ c. simp (c .if1 .taken)) (λ c. simp (c .if1 .left)))
+limit-spec = tie.close (tie.spec (λ c κs. tt) (λ c. simp (c .before .if1 .taken) (c .squared .ensures)) (λ c. simp (c .if1 .left)))
