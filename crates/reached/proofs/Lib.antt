@@ -10,6 +10,7 @@ pub mod Lowering  -- a trigger goes above T only where T is lowered; on Counting
 pub mod Knocked  -- which axes went over; on Counting
 pub mod Deaf  -- how long each sensor has been ignored
 pub mod Shown  -- the axes that went over and the counts are only shown
+pub mod Angles  -- a filter by angles is one by squared limits; on Accepting
 pub mod Leaving  -- from an orientation of zero: no update, but a restart or a quaternion set
 pub mod Turned  -- what an accepted update makes of the orientation
 pub mod Orienting  -- when the orientation is zero, and what it is otherwise; on Turned, Leaving
