@@ -5,6 +5,7 @@ import fcntl
 import hashlib
 import pathlib
 import platform
+import re
 import shutil
 import subprocess
 import tempfile
@@ -97,6 +98,18 @@ def laid_out(sources, into):
     for file, text in {**found, pathlib.Path("src/interop.rs"): b""}.items():
         (into / file).parent.mkdir(parents=True, exist_ok=True)
         (into / file).write_bytes(text)
+
+
+def published(sources, into, private):
+    """A copy of the Rust with names that it keeps to itself public. Of each is given the file, and how its line begins."""
+    laid_out(sources, into)
+    for file, name in private:
+        path = into / "src" / file
+        text, count = re.subn(f"(?m)^{re.escape(name)}", f"pub {name}", path.read_text("utf-8"))
+        if count != 1:
+            stop(f"the Rust's {file} has {count} lines that begin with {name}")
+        path.write_text(text, "utf-8")
+    return into
 
 
 def libm(given):
