@@ -1,7 +1,7 @@
 //! One driver for both sides: a bench is a function of a log in memory and a count, which makes `count` calls and answers a sum.
-//! The port's are the loops of crates/cost; the Rust's do the same work, so both give the same sum.
+//! The port's are the loops of crates/cost; the Rust's do the same work, so both give the same sum, but of sines and cosines.
 
-use fusion_ahrs::{Ahrs, AhrsSettings, Bias, RemapAlignment, Vector, remap};
+use fusion_ahrs::{Ahrs, AhrsSettings, Bias, DEG_TO_RAD, RemapAlignment, Vector, remap};
 use std::time::Instant;
 
 /// SplitMix64.
@@ -64,6 +64,15 @@ fn root(log: &[f32], count: u32) -> u32 {
     (0..count).fold(0u32, |sum, i| sum.wrapping_add(libm::sqrtf(vector(log, i, 3).z + 8.0).to_bits()))
 }
 
+/// Of angles from -360 to 360 degrees, made of the rates about x.
+fn sine(log: &[f32], count: u32) -> u32 {
+    (0..count).fold(0u32, |sum, i| sum.wrapping_add(libm::sinf(vector(log, i, 0).x * 92.0 * DEG_TO_RAD).to_bits()))
+}
+
+fn cosine(log: &[f32], count: u32) -> u32 {
+    (0..count).fold(0u32, |sum, i| sum.wrapping_add(libm::cosf(vector(log, i, 0).x * 92.0 * DEG_TO_RAD).to_bits()))
+}
+
 /// A run of 1000 vectors.
 fn turn_run(source: &[f32], turned: &mut [f32], alignment: RemapAlignment) {
     for (from, to) in source.chunks_exact(3).zip(turned.chunks_exact_mut(3)) {
@@ -86,6 +95,8 @@ mod port {
         pub fn port_update(log: *const f32, len: usize, count: u32) -> u32;
         pub fn port_reading(log: *const f32, len: usize, count: u32) -> u32;
         pub fn port_root(log: *const f32, len: usize, count: u32) -> u32;
+        pub fn port_sine(log: *const f32, len: usize, count: u32) -> u32;
+        pub fn port_cosine(log: *const f32, len: usize, count: u32) -> u32;
         pub fn port_turn(log: *const f32, len: usize, count: u32) -> u32;
     }
 }
@@ -104,10 +115,14 @@ fn main() {
         "rust-update" => update(&log, count),
         "rust-reading" => reading(&log, count),
         "rust-root" => root(&log, count),
+        "rust-sine" => sine(&log, count),
+        "rust-cosine" => cosine(&log, count),
         "rust-turn" => turn(&log[..3000], count),
         "port-update" => port(port::port_update, &log, count),
         "port-reading" => port(port::port_reading, &log, count),
         "port-root" => port(port::port_root, &log, count),
+        "port-sine" => port(port::port_sine, &log, count),
+        "port-cosine" => port(port::port_cosine, &log, count),
         "port-turn" => port(port::port_turn, &log[..3000], count),
         other => panic!("no bench {other}"),
     };

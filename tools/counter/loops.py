@@ -1,4 +1,5 @@
 """`tools/bench` without options: x86-64 instructions a call of the Rust and of the proved loops of crates/cost, and a record of `replay`."""
+import collections
 import pathlib
 import platform
 import shutil
@@ -14,8 +15,10 @@ import packages
 COUNTER = pathlib.Path(__file__).resolve().parent
 BENCH = packages.BENCH
 NATIVE = platform.machine() == "x86_64"
-# What each row counts, under which name the driver has it, and how many calls.
-ROWS = (("update", "update", 10000), ("bias reading", "reading", 10000), ("root", "root", 10000), ("run of 1000 vectors", "turn", 120))
+# What a row counts, under which name the driver has it, how many calls, and whether both sides have one sum: their sines are not one.
+Row = collections.namedtuple("Row", "label bench count same", defaults=(True,))
+ROWS = (Row("update", "update", 10000), Row("bias reading", "reading", 10000), Row("root", "root", 10000),
+        Row("sine", "sine", 10000, False), Row("cosine", "cosine", 10000, False), Row("run of 1000 vectors", "turn", 120))
 
 
 def compiler():
@@ -73,11 +76,13 @@ def measured(counter, program, bench, count):
     return (counting.counted(twice) - counting.counted(once)) / count, each, total
 
 
-def row(counter, program, label, bench, count):
-    rust, port = (measured(counter, program, f"{side}-{bench}", count) for side in ("rust", "port"))
+def counted(counter, program, row, how=""):
+    """Prints a row, and answers the port's count."""
+    rust, port = (measured(counter, program, f"{side}-{row.bench}", row.count) for side in ("rust", "port"))
     times = f" {rust[1]:9.1f} {port[1]:9.1f}" if NATIVE else ""
-    print(f"{label:28}{rust[0]:10.1f}{port[0]:10.1f}{port[0] / rust[0]:7.2f}{times}  {rust[2]}", flush=True)
-    if rust[2] != port[2]:
+    sums = rust[2] if row.same else f"{rust[2]}, {port[2]}"
+    print(f"{row.label + how:28}{rust[0]:10.1f}{port[0]:10.1f}{port[0] / rust[0]:7.2f}{times}  {sums}", flush=True)
+    if row.same and rust[2] != port[2]:
         print(f"the sums differ: the Rust's {rust[2]}, the port's {port[2]}")
         sys.exit(1)
     return port[0]
@@ -121,10 +126,10 @@ def main(args):
     counter, called, inlined = built(args)
     print(f"{'':28}{'Rust':>10}{'port':>10}{'ratio':>7}{'   Rust ns   port ns' if NATIVE else ''}  sum")
     counts = {}
-    for label, bench, count in ROWS:
-        if bench in ("update", "reading"):
-            counts[bench] = row(counter, called, f"{label}, called", bench, count)
-            row(counter, inlined, f"{label}, inlined", bench, count)
+    for row in ROWS:
+        if row.bench in ("update", "reading"):
+            counts[row.bench] = counted(counter, called, row, ", called")
+            counted(counter, inlined, row, ", inlined")
         else:
-            row(counter, called, label, bench, count)
+            counted(counter, called, row)
     replayed(counter, counts["update"])

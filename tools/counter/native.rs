@@ -19,6 +19,8 @@ struct Given {
     records: Vec<[f32; 9]>,
     /// The squared lengths of what was measured, whose roots an update takes.
     squares: Vec<f32>,
+    /// As many angles as records, evenly from -360 degrees on to 360.
+    angles: Vec<f32>,
     /// Room for what `playback` prints.
     lines: Vec<u8>,
     filter: fusion_ahrs::AhrsSettings,
@@ -33,6 +35,7 @@ impl Given {
         let records: Vec<[f32; 9]> =
             log[HEADER..].chunks_exact(RECORD).map(|record| std::array::from_fn(|i| float(record, 2 + 4 * i))).collect();
         let squares = records.iter().flat_map(|r| [square(&r[3..6]), square(&r[6..9])]).collect();
+        let angles = (0..records.len()).map(|i| i as f32 * 720.0 / records.len() as f32 - 360.0).collect();
         // The log has the squared limits of 10 degrees, which the Rust takes as an angle.
         let filter = fusion_ahrs::AhrsSettings {
             sample_rate: float(&log, 6),
@@ -44,7 +47,7 @@ impl Given {
             rejection_timeout: float(&log, 26),
         };
         let estimator = fusion_ahrs::BiasSettings { sample_rate: float(&log, 6), ..Default::default() };
-        Given { lines: vec![0; log.len()], log, records, squares, filter, estimator }
+        Given { lines: vec![0; log.len()], log, records, squares, angles, filter, estimator }
     }
 
     /// The sum of the lines that were printed: it is that of the updates, since a line begins with the bits of w.
@@ -72,7 +75,7 @@ fn and(sum: u32, x: f32) -> u32 {
 
 mod rust {
     use super::{Given, and};
-    use fusion_ahrs::{Ahrs, Bias, Vector};
+    use fusion_ahrs::{Ahrs, Bias, DEG_TO_RAD, Vector};
 
     pub fn update(given: &mut Given) -> u32 {
         let mut filter = Ahrs::with_settings(given.filter);
@@ -89,6 +92,14 @@ mod rust {
 
     pub fn root(given: &mut Given) -> u32 {
         given.squares.iter().fold(0, |sum, x| and(sum, libm::sqrtf(*x)))
+    }
+
+    pub fn sine(given: &mut Given) -> u32 {
+        given.angles.iter().fold(0, |sum, x| and(sum, libm::sinf(*x * DEG_TO_RAD)))
+    }
+
+    pub fn cosine(given: &mut Given) -> u32 {
+        given.angles.iter().fold(0, |sum, x| and(sum, libm::cosf(*x * DEG_TO_RAD)))
     }
 }
 
@@ -147,6 +158,14 @@ mod port {
         given.squares.iter().fold(0, |sum, x| and(sum, gateweave::root::sqrtf(*x)))
     }
 
+    pub fn sine(given: &mut Given) -> u32 {
+        given.angles.iter().fold(0, |sum, x| and(sum, gateweave::trig::sin(*x)))
+    }
+
+    pub fn cosine(given: &mut Given) -> u32 {
+        given.angles.iter().fold(0, |sum, x| and(sum, gateweave::trig::cos(*x)))
+    }
+
     /// The whole log at once, of which nothing is left, so that the buffer is as it was.
     pub fn playback(given: &mut Given) -> u32 {
         let n = given.log.len();
@@ -159,10 +178,14 @@ fn bench(name: &str) -> Bench {
         "rust-update" => rust::update,
         "rust-reading" => rust::reading,
         "rust-root" => rust::root,
+        "rust-sine" => rust::sine,
+        "rust-cosine" => rust::cosine,
         "port-update" => port::update,
         "port-lent" => port::lent,
         "port-reading" => port::reading,
         "port-root" => port::root,
+        "port-sine" => port::sine,
+        "port-cosine" => port::cosine,
         "port-playback" => port::playback,
         other => panic!("no bench {other}"),
     }
