@@ -1,7 +1,8 @@
-//! The Rust's constants as bits, and its squared limit for each angle given: a program of its own, which tools/constants builds over
-//! a copy of the crate whose private names are public.
+//! The Rust's constants as bits, and for each angle given its squared limit and the port's: a program of its own, which tools/constants
+//! builds over a copy of the crate whose private names are public, and over the exported text.
 
 use fusion_ahrs::{BiasSettings, DEG_TO_RAD, ahrs, bias};
+use gateweave::trig;
 
 /// The coefficient of a cutoff of 1/2 at rate 1, ((2 x pi) x 1/2) x 1, which is the pi of bias.rs itself.
 fn pi() -> f32 {
@@ -23,7 +24,8 @@ fn main() {
     }
     println!("RECOVERY_DECREMENT {0:08X} {0}", ahrs::RECOVERY_DECREMENT);
     for angle in std::env::args().skip(1) {
-        let limit = ahrs::rejection_threshold(angle.parse().expect("an angle"));
-        println!("{angle} {:08X} {limit:?}", limit.to_bits());
+        let degrees = angle.parse().expect("an angle");
+        let (rust, port) = (ahrs::rejection_threshold(degrees), trig::rejection_threshold(degrees));
+        println!("{angle} {:08X} {:08X} {rust:?} {port:?}", rust.to_bits(), port.to_bits());
     }
 }
