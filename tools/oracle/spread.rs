@@ -64,10 +64,15 @@ fn reference(degrees: f32, quarters: i32) -> f64 {
     if quarter < 2 { size } else { -size }
 }
 
+/// How far two numbers are apart; a NaN is apart from everything.
+fn apart(a: f64, b: f64) -> f64 {
+    if a.is_nan() || b.is_nan() { f64::INFINITY } else { (a - b).abs() / UNIT }
+}
+
 /// The port's from the reference, libm's from the reference, and the two from each other.
 fn three(port: f32, libm: f32, reference: f64) -> [f64; 3] {
     let (port, libm) = (f64::from(port), f64::from(libm));
-    [port - reference, libm - reference, port - libm].map(|difference| difference.abs() / UNIT)
+    [apart(port, reference), apart(libm, reference), apart(port, libm)]
 }
 
 fn sines(degrees: f32) -> [f64; 3] {
