@@ -1,12 +1,12 @@
 """Builds the exported text, and the program that holds it beside the Rust, for the machine at hand."""
 import collections
 import re
-import shutil
 import subprocess
 import sys
 
 import build
 import command
+import inplace
 import packages
 import rules
 
@@ -59,8 +59,8 @@ def opened(text):
 
 
 def rust(sources, into):
-    """The Rust's files, opened."""
-    build.laid_out(sources, into)
+    """The Rust's files with the port's sine in place, opened. Only the limits of angles come of a sine."""
+    inplace.rust(sources, into)
     for name in PRIVATE:
         path = into / "src" / name
         path.write_text(opened(path.read_text("utf-8")), "utf-8")
@@ -78,8 +78,7 @@ def compiled(crate, into, over, rustc=("rustc",), link=(), options=()):
 
 def differ(sources, libm, checked=False, processor=None):
     """The command that holds the export beside the Rust, on this machine or by an emulator of another; what is not built yet is built."""
-    if not shutil.which("rustc"):
-        command.stop("the Rust compiler is missing: no command rustc on the path")
+    build.needs_rustc()
     with build.alone():
         crate, theirs, into = BUILD / "gateweave", BUILD / "fusion-ahrs", BUILD / ((processor or "here") + "-checked" * checked)
         into.mkdir(parents=True, exist_ok=True)
@@ -92,7 +91,7 @@ def differ(sources, libm, checked=False, processor=None):
         if not (stamp.is_file() and stamp.read_text() == now and (into / "native").is_file()):
             command.say("building the export beside the Rust ..")
             stamp.unlink(missing_ok=True)
-            build.library(rustc, "fusion_ahrs", "2024", theirs / "src/lib.rs", into, *build.library(rustc, "libm", "2018", root, into))
+            build.library(rustc, "fusion_ahrs", "2024", theirs / "src/lib.rs", into, *inplace.libm(rustc, root, crate, into))
             compiled(crate, into, into, rustc, link, CHECKED * checked)
             stamp.write_text(now)
         return [*runs, into / "native"]

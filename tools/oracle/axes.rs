@@ -13,7 +13,7 @@ pub fn over(gyroscope: &[u32], before: &[u32; 37]) -> u32 {
 /// The axes after an accepted call: the latest that went over, until startup ends or is skipped, or a restart.
 pub fn after(code: u32, was: u32, over: u32, startup: bool) -> u32 {
     match code {
-        0x80 | 0x83 | 0x84 => 0,
+        0x80 | 0x83 | 0x84 | 0x90 => 0,
         0x86 if !startup => 0,
         0x86 if over != 0 => over,
         _ => was,

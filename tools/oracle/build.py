@@ -17,7 +17,10 @@ ORACLE = TOP / "tools/oracle"
 BUILD = TOP / "target/beside"
 SOURCES = TOP.parent / "shared/docs/src"
 PACKAGE = "librust-libm-dev"
-MODES = ("math", "mounting", "bias", "pole", "locked", "edge", "fuzz", "mix")
+MODES = ("math", "mounting", "bias", "pole", "locked", "edge", "fuzz", "mix", "degrees")
+# The calls of degrees, and the modes that have them: for the second oracle (second.py).
+DEGREES = (0x47, 0x48, 0x90, 0x91)
+IN_DEGREES = ("degrees", "sample")
 
 
 def takes_sources(arguments):
@@ -141,9 +144,14 @@ def print_of(*folders):
     return digest.hexdigest()
 
 
-def crate(rust, into, main=ORACLE / "main.rs", optimise="3"):
-    """The Rust crate in `rust`, and the oracle or another program over it, as `into`/oracle."""
-    options = ("-C", f"opt-level={optimise}", "--extern", f"libm={BUILD}/liblibm.rlib", "-L", BUILD)
+def needs_rustc():
+    if not shutil.which("rustc"):
+        stop("the Rust compiler is missing: no command rustc on the path")
+
+
+def crate(rust, into, main=ORACLE / "main.rs", optimise="3", over=BUILD):
+    """The Rust crate in `rust` over the libm of a folder, and the oracle or another program over both, as `into`/oracle."""
+    options = ("-C", f"opt-level={optimise}", "--extern", f"libm={over}/liblibm.rlib", "-L", over)
     lib = into / "libfusion_ahrs.rlib"
     rustc("--edition", "2024", "--crate-type", "rlib", "--crate-name", "fusion_ahrs", *options, "-o", lib, rust / "src/lib.rs",
           why="the Rust crate does not compile")
@@ -154,8 +162,7 @@ def crate(rust, into, main=ORACLE / "main.rs", optimise="3"):
 
 def oracle(sources, libm_folder=None):
     """Builds all that is not built yet, and answers the oracle's path."""
-    if not shutil.which("rustc"):
-        stop("the Rust compiler is missing: no command rustc on the path")
+    needs_rustc()
     rust = BUILD / "fusion-ahrs"
     with alone():
         laid_out(sources, rust)

@@ -14,7 +14,7 @@ use std::collections::BTreeMap;
 use std::io::{self, Write};
 
 /// The sensors: what is said of each, the places of its words in a state and of its limit, and that of its reading in an update.
-const SENSORS: [(&str, usize, usize, usize); 2] =
+pub const SENSORS: [(&str, usize, usize, usize); 2] =
     [("acceleration", ACCELERATION, LIMITS_USED, 4), ("magnetic", MAGNETIC, LIMITS_USED + 1, 7)];
 
 /// The sets of axes by their words.
@@ -27,12 +27,14 @@ fn recovers(w: &[u32; 37], sensor: usize) -> bool {
 
 #[derive(Default)]
 pub struct Cover {
-    machine: Machine,
+    pub machine: Machine,
+    /// Whether the limits in use come from angles that were given.
+    angles: bool,
     counts: BTreeMap<String, u64>,
 }
 
 impl Cover {
-    fn count(&mut self, name: &str, here: bool) {
+    pub fn count(&mut self, name: &str, here: bool) {
         *self.counts.entry(name.into()).or_default() += u64::from(here);
     }
 
@@ -47,6 +49,7 @@ impl Cover {
         self.matrices(r, &answer);
         self.zeros(r, number);
         self.records(r, number);
+        self.degrees(r, number, self.angles);
         if let Some(before) = &before {
             self.orientations(r, number, before);
             self.axes(r, number, before, axes);
@@ -56,6 +59,7 @@ impl Cover {
             return;
         }
         match (code, before, bias) {
+            (0x80 | 0x81 | 0x90 | 0x91, ..) => self.angles = code >= 0x90,
             (0x86, Some(before), _) => {
                 self.update(r, &before);
                 self.counted(r, &before, ignored);
@@ -142,8 +146,8 @@ impl Cover {
     fn axes(&mut self, r: &Record, number: u32, before: &[u32; 37], was: u32) {
         let up = number == 0 && was != 0;
         match r[0] & !QUIET {
-            0x80 => self.count("> axes gone with a start", up),
-            0x81 => self.count("> axes left by new settings", up),
+            0x80 | 0x90 => self.count("> axes gone with a start", up),
+            0x81 | 0x91 => self.count("> axes left by new settings", up),
             0x82 => self.count("> axes left by a new period", up),
             0x83 => self.count("> axes gone with a restart", up),
             0x84 => self.count("> axes gone with a skipped startup", up),
@@ -176,8 +180,8 @@ impl Cover {
         for ((name, _, _, place), was) in SENSORS.into_iter().zip(was) {
             let (up, zero) = (was != 0, is_zero(&r[place..place + 3]));
             let (what, here) = match (code, number) {
-                (0x80, 0) => ("gone with a start", up),
-                (0x81, 0) => ("left by new settings", up),
+                (0x80 | 0x90, 0) => ("gone with a start", up),
+                (0x81 | 0x91, 0) => ("left by new settings", up),
                 (0x82, 0) => ("left by a new period", up),
                 (0x83, 0) => ("gone with a restart", up),
                 (0x84, 0) => ("left by a skipped startup", up),
@@ -216,7 +220,7 @@ impl Cover {
     }
 
     fn update(&mut self, r: &Record, before: &[u32; 37]) {
-        let after = self.machine.ahrs_words();
+        let (after, angles) = (self.machine.ahrs_words(), self.angles);
         let startup = after[22] == 1;
         self.count("> startup ended", before[22] == 1 && !startup);
         self.count("> in startup", startup);
@@ -233,6 +237,8 @@ impl Cover {
             let mut at = |what: &str, here: bool| self.count(&format!("> {name} {what}"), here);
             at("equal to its limit", !startup && square == f(after[limit]));
             at("over its limit, ignored", after[s + 5] == 1);
+            at("equal to the limit of its angle", angles && !startup && square == f(after[limit]));
+            at("over the limit of its angle, ignored", angles && after[s + 5] == 1);
             at("over its limit, used in recovery", !startup && square > f(after[limit]) && after[s + 5] == 0);
             at("recovery begins", !recovers(before, s) && recovers(&after, s));
             at("recovery ends", recovers(before, s) && !recovers(&after, s));

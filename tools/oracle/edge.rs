@@ -122,9 +122,9 @@ impl Script<'_> {
         [0; 9].map(|_: u32| self.random.common())
     }
 
-    /// An update whose squared residual equals the limit, then with the limit one step below it and above; now and then on an
+    /// An update, and the square of the residual that it has for a sensor, where an angle may have it as its limit; now and then on an
     /// orientation that may be far from length 1.
-    pub fn equal_limit(&mut self, sensor: usize) {
+    pub fn residual(&mut self, sensor: usize) -> Option<([u32; 9], f32)> {
         if self.random.one_in(4) {
             self.fit_quaternion();
         }
@@ -134,14 +134,17 @@ impl Script<'_> {
         tried.update([0.0, 0.0, 0.0], [f(u[3]), f(u[4]), f(u[5])], [f(u[6]), f(u[7]), f(u[8])]);
         let after = state::of_ahrs(&tried);
         let square = Vector::new(f(after[sensor]), f(after[sensor + 1]), f(after[sensor + 2])).norm_squared();
-        if !(square > 0.0 && square < 0.25) {
-            return;
-        }
+        (square > 0.0 && square < 0.25).then_some((u, square))
+    }
+
+    /// An update whose squared residual equals the limit, then with the limit one step below it and above.
+    pub fn equal_limit(&mut self, sensor: usize) {
+        let Some((u, square)) = self.residual(sensor) else { return };
         let now = self.machine.ahrs_words();
         let quaternion = now[state::QUATERNION..state::QUATERNION + 4].to_vec();
         for step in [0u32, 1, !0] {
             let limit = square.to_bits().wrapping_add(step);
-            let Some(angle) = state::angle_for(f(limit)) else { continue };
+            let Some(angle) = state::angle_for(f32::from_bits(limit)) else { continue };
             let mut s = [bits(100.0), now[1], bits(0.5), 0, f32::MAX.to_bits(), f32::MAX.to_bits(), bits(0.05), 0, 0];
             let at = if sensor == ACCELERATION { 0 } else { 1 };
             s[4 + at] = limit;

@@ -1,4 +1,4 @@
-//! The calls of the filter. The settings hold angles in the Rust and squared limits in the port: a script gives both.
+//! The calls of the filter. The Rust's settings hold angles: where a script gives squared limits it gives the angles beside them.
 
 use crate::axes;
 use crate::ignored;
@@ -7,14 +7,18 @@ use crate::state;
 use crate::words::{all_finite, bits, f, of_q, of_v, q, v};
 use fusion_ahrs::{Ahrs, AhrsSettings, Convention, Quaternion};
 
-/// The refusal that settings get before anything is derived from them, or 0. The angles are not looked at.
-pub fn unfit(a: &[u32]) -> u32 {
+/// The most that a limit may be: squared, or in degrees.
+pub const ANY_SIZE: f32 = f32::MAX;
+const RIGHT_ANGLE: f32 = 90.0;
+
+/// The refusal that settings get before anything is derived from them, or 0. Angles beside squared limits are not looked at.
+pub fn unfit(a: &[u32], most: f32) -> u32 {
     let [rate, convention, gain, range, acceleration, magnetic, timeout] = *a.first_chunk::<7>().unwrap();
     if convention > 2 {
         4
     } else if !all_finite(&[rate, gain, range, acceleration, magnetic, timeout]) {
         5
-    } else if !(f(rate) > 0.0) || f(acceleration) < 0.0 || f(magnetic) < 0.0 || f(timeout) < 0.0 {
+    } else if !(f(rate) > 0.0) || [acceleration, magnetic].iter().any(|w| !(0.0..=most).contains(&f(*w))) || f(timeout) < 0.0 {
         6
     } else {
         0
@@ -32,7 +36,7 @@ pub fn settable(q: Quaternion) -> bool {
 
 impl Machine {
     pub fn ahrs(&mut self, code: u32, a: &[u32]) -> Answer {
-        if code == 0x80 || code == 0x81 {
+        if matches!(code, 0x80 | 0x81 | 0x90 | 0x91) {
             return self.ahrs_settings(code, a);
         }
         let next = self.ahrs.clone().expect("the script starts no filter");
@@ -89,33 +93,37 @@ impl Machine {
         }
     }
 
+    /// Of calls 80 and 81 the limits are squared, and the angles stand behind them; of 90 and 91 the limits are angles.
     fn ahrs_settings(&mut self, code: u32, a: &[u32]) -> Answer {
-        let [rate, convention, gain, range, acceleration, magnetic, timeout, acceleration_angle, magnetic_angle] =
-            *a.first_chunk::<9>().unwrap();
-        let number = unfit(a);
+        let [rate, convention, gain, range, acceleration, magnetic, timeout, ..] = *a.first_chunk::<9>().unwrap();
+        let (squared, limits) = (code < 0x90, [acceleration, magnetic]);
+        let number = unfit(a, if squared { ANY_SIZE } else { RIGHT_ANGLE });
         if number != 0 {
             return refused(number);
         }
+        let angles = if squared { [a[7], a[8]] } else { limits };
         let settings = AhrsSettings {
             sample_rate: f(rate),
             convention: Convention::ALL[convention as usize],
             gain: f(gain),
             gyroscope_range: f(range),
-            acceleration_rejection: f(acceleration_angle),
-            magnetic_rejection: f(magnetic_angle),
+            acceleration_rejection: f(angles[0]),
+            magnetic_rejection: f(angles[1]),
             rejection_timeout: f(timeout),
         };
-        let mut next = if code == 0x80 {
+        let mut next = if matches!(code, 0x80 | 0x90) {
             Ahrs::with_settings(settings)
         } else {
             let mut next = self.ahrs.clone().expect("the script starts no filter");
             next.set_settings(settings);
             next
         };
-        state::hold_limits(&mut next, [(acceleration, acceleration_angle), (magnetic, magnetic_angle)]);
+        if squared {
+            state::hold_limits(&mut next, [(acceleration, angles[0]), (magnetic, angles[1])]);
+        }
         let answer = self.keep_ahrs(code, next, 0, []);
         if answer.number == 0 {
-            self.limits = [acceleration, magnetic];
+            self.limits = limits;
         }
         answer
     }

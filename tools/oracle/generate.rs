@@ -20,6 +20,8 @@ pub struct Script<'a> {
     pub patience: u32,
     /// Startup is skipped after one update in so many; never by itself where this is 0.
     pub haste: u64,
+    /// Of settings whose limits come from angles one in so many is given by the angles; none where this is 0.
+    pub by_angles: u64,
 }
 
 pub fn bits(x: f64) -> u32 {
@@ -28,7 +30,8 @@ pub fn bits(x: f64) -> u32 {
 
 impl Script<'_> {
     pub fn put(&mut self, code: u32, args: &[u32]) -> u32 {
-        self.put_record(record(code, args))
+        let r = self.in_degrees(code, args).unwrap_or_else(|| record(code, args));
+        self.put_record(r)
     }
 
     fn put_record(&mut self, mut r: Record) -> u32 {
@@ -73,6 +76,7 @@ impl Script<'_> {
             "bias" => self.records(),
             "sample" => self.sample(),
             "locked" => self.longest(),
+            "degrees" => self.begin_degrees(),
             _ => (),
         }
         while self.left > 0 {
@@ -83,6 +87,7 @@ impl Script<'_> {
                 "pole" | "sample" => self.pole(),
                 "locked" => self.locked(),
                 "edge" => self.edge(),
+                "degrees" => self.degrees(),
                 "fuzz" => self.fuzz(),
                 "mix" => self.mix(),
                 _ => panic!("no mode {mode}"),
@@ -112,6 +117,7 @@ impl Script<'_> {
         let any = self.random.below(24) as u32;
         self.rotations(any);
         self.rotations(24);
+        self.some_degrees();
         let parts: [(u64, fn(&mut Self)); 5] =
             [(46, Self::edge), (60, Self::math), (68, Self::mounting), (88, Self::bias), (93, Self::fuzz)];
         for (percent, calls) in parts {
@@ -153,7 +159,7 @@ impl Script<'_> {
     }
 
     pub fn math(&mut self) {
-        let calls: Vec<_> = CALLS.iter().filter(|c| c.0 < 0x50).collect();
+        let calls: Vec<_> = CALLS.iter().filter(|c| c.0 < 0x47).collect();
         let (code, _, kinds) = *self.random.pick(&calls);
         let r = &mut self.random;
         let kind = r.below(6);
@@ -392,10 +398,11 @@ impl Script<'_> {
         self.put(code, &[]);
     }
 
-    /// One call of any kind with bits changed at random. A limit that is to be accepted has to be one of the Rust's.
+    /// One call of any kind, but those of degrees, with bits changed at random. A limit that is to be accepted has to be one of the Rust's.
     pub fn fuzz(&mut self) {
         let r = &mut self.random;
-        let (code, _, kinds) = *r.pick(&CALLS.iter().filter(|c| !matches!(c.0, 0x53..=0x55 | 0x68..=0x6C)).collect::<Vec<_>>());
+        let left_out = |code: u32| matches!(code, 0x47 | 0x48 | 0x53..=0x55 | 0x68..=0x6C | 0x90 | 0x91);
+        let (code, _, kinds) = *r.pick(&CALLS.iter().filter(|c| !left_out(c.0)).collect::<Vec<_>>());
         if code == 0x80 || code == 0x81 {
             let mut s = self.ahrs_settings();
             let r = &mut self.random;

@@ -14,7 +14,7 @@ pub fn after(code: u32, was: [u32; 2], over: u32, marks: [bool; 2]) -> [u32; 2] 
     let from = if over == 0 { was } else { [0; 2] };
     let counted = |i: usize| if marks[i] { from[i].saturating_add(1) } else { 0 };
     match code {
-        0x80 | 0x83 => [0; 2],
+        0x80 | 0x83 | 0x90 => [0; 2],
         0x86 => [counted(0), counted(1)],
         _ => was,
     }

@@ -4,6 +4,7 @@
 use crate::ignored;
 use crate::plain::{arithmetic, mountings};
 use crate::record::{QUIET, Record};
+use crate::sines;
 use crate::state;
 use crate::words::of_q;
 use fusion_ahrs::{Ahrs, Bias};
@@ -33,7 +34,7 @@ pub enum Side {
 #[derive(Clone, Default)]
 pub struct Machine {
     pub ahrs: Option<Ahrs>,
-    /// The two squared limits as given; the Rust keeps the angles.
+    /// The two limits as given, squared or in degrees; the Rust keeps angles.
     pub limits: [u32; 2],
     /// The axes that went over; the Rust keeps whether some did.
     pub axes: u32,
@@ -58,7 +59,7 @@ fn agrees(ahrs: &Ahrs, w: &[u32; 37]) {
 pub fn side(code: u32) -> Side {
     match code {
         0x60..=0x6F => Side::Bias,
-        0x80..=0x8F | 0x92 => Side::Ahrs,
+        0x80..=0x92 => Side::Ahrs,
         _ => Side::None,
     }
 }
@@ -102,10 +103,14 @@ impl Machine {
     pub fn call(&mut self, r: &Record) -> Answer {
         let (code, a) = (r[0] & !QUIET, &r[1..]);
         match code {
+            0x47 | 0x48 | 0x90 | 0x91 if !sines::in_place() => {
+                panic!("call {code:02X} is for the oracle with the port's sine in place")
+            }
+            0x47 | 0x48 => sines::answer(code, a[0]),
             0x10..=0x4F => gives(arithmetic(code, a)),
             0x50..=0x5F => mountings(code, a),
             0x60..=0x6F => self.bias(code, a),
-            0x80..=0x8F | 0x92 => self.ahrs(code, a),
+            0x80..=0x92 => self.ahrs(code, a),
             _ => panic!("the script has a call {code:02X}"),
         }
     }

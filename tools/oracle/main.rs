@@ -2,7 +2,9 @@
 
 mod axes;
 mod cover;
+mod cover_degrees;
 mod damage;
+mod degrees;
 mod edge;
 mod estimator;
 mod filter;
@@ -22,6 +24,7 @@ mod recording;
 mod rows;
 #[path = "closed.rs"]
 mod rust;
+mod sines;
 mod spell;
 mod state;
 mod walk;
@@ -39,7 +42,8 @@ oracle log                            replay the log on standard input, a line f
 oracle make-log SEED COUNT            a log of up to COUNT records, some damaged in one place
 oracle rows                           the rows of the bench table of a sensor that is locked out
 
-MODE is math, mounting, bias, pole, locked, edge, fuzz, mix (of all these but locked) or sample (some of each but locked).
+MODE is math, mounting, bias, pole, locked, edge, fuzz, mix (of all these but locked), degrees, or sample (some of each but locked). Calls
+47, 48, 90 and 91, which degrees and sample have, are for the oracle over the Rust with the port's sine in place.
 ";
 
 /// Each record of the script on standard input.
@@ -65,6 +69,7 @@ fn make(args: &[String], out: &mut impl Write) {
         stuck: 0,
         patience: 4,
         haste: 0,
+        by_angles: 0,
     };
     script.make(&args[1]);
 }

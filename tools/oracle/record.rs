@@ -54,6 +54,8 @@ pub const CALLS: &[(u32, &str, &[Kind])] = &[
     (0x44, "i32_as_f32", &[W]),
     (0x45, "i32_saturating_add", &[W; 2]),
     (0x46, "i32_saturating_sub", &[W; 2]),
+    (0x47, "sin_degrees", &[F]),
+    (0x48, "cos_degrees", &[F]),
     (0x50, "mounting.turn", &[W, F, F, F]),
     (0x51, "mounting.then", &[W; 2]),
     (0x52, "mounting.inverse", &[W]),
@@ -91,6 +93,8 @@ pub const CALLS: &[(u32, &str, &[Kind])] = &[
     (0x8D, "ahrs.ignored", &[]),
     (0x8E, "ahrs.settings", &[]),
     (0x8F, "ahrs.axes", &[]),
+    (0x90, "ahrs.with_angles", &[F, W, F, F, F, F, F]),
+    (0x91, "ahrs.set_angles", &[F, W, F, F, F, F, F]),
     (0x92, "ahrs.ignored_counts", &[]),
 ];
 

@@ -35,8 +35,17 @@ const NOT_FINITE: [u32; 6] = [0x7FC0_0000, 0x7F80_0000, 0xFF80_0000, 0xFFC0_0000
 
 pub fn make(seed: u64, count: u64) -> Vec<u8> {
     let out = &mut |_: &Record, _: &Answer, _: &Machine| ();
-    let mut script =
-        Script { random: Random(seed), machine: Machine::default(), out, quiet: 1, left: 0, stuck: 0, patience: 4, haste: 0 };
+    let mut script = Script {
+        random: Random(seed),
+        machine: Machine::default(),
+        out,
+        quiet: 1,
+        left: 0,
+        stuck: 0,
+        patience: 4,
+        haste: 0,
+        by_angles: 0,
+    };
     let settings = accepted_settings(&mut script);
     let Script { mut random, mut machine, .. } = script;
     let r = &mut random;
