@@ -21,9 +21,9 @@ impl Script<'_> {
     }
 
     /// At a limit, at the overrange product, at a right angle, T below a trigger, at an end of what may be set or of what an update
-    /// leaves, and one step beside each; a knock or a spell and what follows.
+    /// leaves, and one step beside each; a knock or a spell and what follows; limits of angles, and both kinds of them in turn.
     fn hard(&mut self) {
-        match self.random.below(13) {
+        match self.random.below(17) {
             0 | 1 => self.equal_limit(ACCELERATION),
             2 | 3 => self.equal_limit(MAGNETIC),
             4 => self.dot_zero(),
@@ -34,6 +34,10 @@ impl Script<'_> {
             9 => self.knock(),
             10 => self.spell(),
             11 => self.endless(),
+            12 => self.near_limit(ACCELERATION),
+            13 => self.near_limit(MAGNETIC),
+            14 => self.both_kinds(),
+            15 => self.strange_angles(),
             _ => self.over(),
         }
     }
@@ -63,9 +67,10 @@ impl Script<'_> {
 
     /// Calls of every other kind.
     pub fn others(&mut self) {
-        match self.random.below(3) {
+        match self.random.below(4) {
             0 => self.mounting(),
             1 => self.fuzz(),
+            2 => self.sine(),
             _ => self.math(),
         }
     }

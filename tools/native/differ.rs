@@ -9,7 +9,7 @@ use crate::record::{QUIET, READS, Record, to_text};
 use crate::rust;
 use crate::tally::Tally;
 use crate::words::of_v;
-use gateweave::ahrs::Ahrs;
+use gateweave::ahrs::{Ahrs, Limit};
 
 /// The first call that differs ends the run.
 pub fn differs(what: &str, call: &str, theirs: &[u32], ours: &[u32]) -> ! {
@@ -26,6 +26,8 @@ pub struct Differ {
     ahrs: Option<[u32; 37]>,
     axes: u32,
     ignored: [u32; 2],
+    /// Whether the limits are angles.
+    angles: bool,
     bias: [u32; 10],
 }
 
@@ -52,7 +54,7 @@ impl Differ {
         };
         let after = same_filter("the state after a call", || to_text(r), machine, &ours);
         if let (0x86, Some(before)) = (r[0], self.ahrs) {
-            self.tally.update(r, number, &before, &after);
+            self.tally.update(r, number, self.angles, &before, &after);
             self.tally.axes(self.axes, machine.axes);
             if number == 0 {
                 self.tally.counts(over(&r[1..4], &before), self.ignored, machine.ignored);
@@ -66,9 +68,13 @@ impl Differ {
             }
         } else {
             self.tally.change(r, number, self.ahrs.as_ref().unwrap_or(&after));
+            if matches!(r[0], 0x80 | 0x81 | 0x90 | 0x91) {
+                self.tally.settings_by(r[0] >= 0x90, number, self.angles);
+            }
         }
         self.ahrs = Some(after);
         (self.axes, self.ignored) = (machine.axes, machine.ignored);
+        self.angles = matches!(ours.settings.acceleration_rejection, Limit::Degrees(_));
     }
 
     fn estimator(&mut self, r: &Record, number: u32, machine: &Machine) {

@@ -8,6 +8,8 @@ mod axes;
 mod closed;
 #[path = "../oracle/damage.rs"]
 mod damage;
+#[path = "../oracle/degrees.rs"]
+mod degrees;
 mod differ;
 #[path = "../oracle/edge.rs"]
 mod edge;
@@ -48,6 +50,8 @@ mod record;
 mod recording;
 #[path = "opened.rs"]
 mod rust;
+#[path = "../oracle/sines.rs"]
+mod sines;
 #[path = "../oracle/spell.rs"]
 mod spell;
 #[path = "../oracle/state.rs"]
@@ -64,7 +68,7 @@ use std::sync::atomic::{AtomicU64, Ordering};
 use tally::Tally;
 
 const HELP: &str = "native run KIND SEED COUNT   calls on both sides, until there are COUNT of the kind
-native patterns              every pattern of 32 bits, by the root and the conversions
+native patterns              every pattern of 32 bits, by the root, the conversions, and sine and cosine
 
 KIND is updates, readings, records (of whole logs), or others (calls without a state, and calls of any kind).
 ";
@@ -87,6 +91,7 @@ fn calls(seed: u64, count: u64, step: Step, done: Count) -> Tally {
         stuck: 0,
         patience: 1,
         haste: 40,
+        by_angles: 4,
     };
     script.begin();
     while done(&differ.borrow().tally) < count {

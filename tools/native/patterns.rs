@@ -1,11 +1,17 @@
-//! Every pattern of 32 bits: the root and the conversions beside the Rust's, and what is said of a pattern.
+//! Every pattern of 32 bits: the root and the conversions beside the Rust's, what is said of a pattern, sine and cosine beside 02's
+//! reference, and the limit of an angle beside the Rust's.
 
+use crate::degrees::RIGHT_ANGLE;
 use crate::differ::differs;
+use crate::rust;
+use crate::sines::{is_near, refusal};
 use crate::words::bits;
+use gateweave::trig::{self, Number};
 use gateweave::{number, root, text, wire};
 
 /// The functions that are tried, in the order of their words.
-pub const TRIED: &str = "sqrtf fabsf is_finite to_i32 to_u32 from_i32 is_finite_bits float_of bits_of word";
+pub const TRIED: &str =
+    "sqrtf fabsf is_finite to_i32 to_u32 from_i32 is_finite_bits float_of bits_of word sin cos rejection_threshold";
 
 /// What the Rust, and for the last four the pattern itself, says.
 fn theirs(n: u32) -> [u32; 10] {
@@ -40,6 +46,29 @@ fn ours(n: u32) -> [u32; 10] {
     ]
 }
 
+/// Whether an answer to call 47 or 48 is the refusal of an angle, or as near to its reference as it has to be.
+fn is_right(code: u32, x: f32, answer: &Number) -> bool {
+    match answer {
+        Number::Value(y) => refusal(x) == 0 && is_near(code, x, *y),
+        Number::Refused(n) => *n != 0 && refusal(x) == u32::from(*n),
+    }
+}
+
+/// Sine and cosine of a pattern, and the limit where it is an angle of rejection.
+fn degrees(n: u32) {
+    let (x, pattern) = (f32::from_bits(n), || format!("the pattern {n:08X}"));
+    if !is_right(0x47, x, &trig::sin_degrees(x)) || !is_right(0x48, x, &trig::cos_degrees(x)) {
+        let [theirs, ours] = [[libm::sinf(x), libm::cosf(x)], [trig::sin(x), trig::cos(x)]].map(|both| both.map(bits));
+        differs("sine or cosine, its refusal, or its reference", &pattern(), &theirs, &ours);
+    }
+    if (0.0..=RIGHT_ANGLE).contains(&x) {
+        let (theirs, ours) = (bits(rust::limit_of(x)), bits(trig::rejection_threshold(x)));
+        if theirs != ours {
+            differs("the limit of an angle", &pattern(), &[theirs], &[ours]);
+        }
+    }
+}
+
 /// The patterns of one part in so many.
 pub fn run(part: u64, parts: u64) -> u64 {
     let (from, to) = ((part << 32) / parts, ((part + 1) << 32) / parts);
@@ -53,6 +82,7 @@ pub fn run(part: u64, parts: u64) -> u64 {
         if processor != ours[0] {
             differs("sqrtf and the processor's root", &format!("the pattern {n:08X}"), &[processor], &ours[..1]);
         }
+        degrees(n as u32);
     }
     to - from
 }

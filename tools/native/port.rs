@@ -6,11 +6,12 @@ use crate::plain_port::{arithmetic, mountings};
 use crate::record::{QUIET, Record};
 use crate::words::{bits, f};
 use gateweave::ahrs::read::{Flags, FlagsRead, IgnoredRead, QuaternionRead, SettingsRead, StatesRead, VectorRead};
-use gateweave::ahrs::{self, Ahrs, Axes, Settings};
+use gateweave::ahrs::{self, Ahrs, Axes, Limit, Settings};
 use gateweave::answer::Answer as Said;
 use gateweave::bias::reads::{ActiveRead, OffsetRead, SettingsRead as BiasSettingsRead};
 use gateweave::bias::{self, Bias, BiasSettings};
 use gateweave::math::{Quaternion, Vector};
+use gateweave::trig::{self, Number};
 
 #[derive(Default)]
 pub struct Port {
@@ -45,6 +46,13 @@ pub fn numbered(number: u8) -> Answer {
     Answer { number: number.into(), words: Vec::new() }
 }
 
+fn number(n: Number) -> Answer {
+    match n {
+        Number::Value(x) => gives([bits(x)]),
+        Number::Refused(n) => numbered(n),
+    }
+}
+
 pub fn said(answer: Said) -> Answer {
     match answer {
         Said::Rates(x, y, z) | Said::Turned(x, y, z) => gives([x, y, z].map(bits)),
@@ -53,14 +61,16 @@ pub fn said(answer: Said) -> Answer {
     }
 }
 
-fn settings(a: &[u32]) -> Settings {
+/// The limits of calls 90 and 91 are angles.
+fn settings(code: u32, a: &[u32]) -> Settings {
+    let limit = if code < 0x90 { Limit::Squared } else { Limit::Degrees };
     Settings {
         sample_rate: f(a[0]),
         convention: choice(a[1]),
         gain: f(a[2]),
         gyroscope_range: f(a[3]),
-        acceleration_rejection_squared: f(a[4]),
-        magnetic_rejection_squared: f(a[5]),
+        acceleration_rejection: limit(f(a[4])),
+        magnetic_rejection: limit(f(a[5])),
         rejection_timeout: f(a[6]),
     }
 }
@@ -71,7 +81,7 @@ pub fn bias_settings(a: &[u32]) -> BiasSettings {
 
 fn of_settings(s: &Settings) -> [u32; 7] {
     let [rate, gain, range, timeout] = [s.sample_rate, s.gain, s.gyroscope_range, s.rejection_timeout].map(bits);
-    let [acceleration, magnetic] = [s.acceleration_rejection_squared, s.magnetic_rejection_squared].map(bits);
+    let [acceleration, magnetic] = [s.acceleration_rejection, s.magnetic_rejection].map(|limit| bits(limit.given()));
     [rate, s.convention.into(), gain, range, acceleration, magnetic, timeout]
 }
 
@@ -117,6 +127,8 @@ impl Port {
     pub fn call(&mut self, r: &Record) -> Answer {
         let (code, a) = (r[0] & !QUIET, &r[1..]);
         match code {
+            0x47 => number(trig::sin_degrees(f(a[0]))),
+            0x48 => number(trig::cos_degrees(f(a[0]))),
             0x10..=0x4F => gives(arithmetic(code, a)),
             0x50..=0x5F => mountings(code, a),
             0x60..=0x6F => self.bias(code, a),
@@ -136,8 +148,8 @@ impl Port {
     }
 
     fn ahrs(&mut self, code: u32, a: &[u32]) -> Answer {
-        if code == 0x80 {
-            return match Ahrs::with_settings(settings(a)) {
+        if matches!(code, 0x80 | 0x90) {
+            return match Ahrs::with_settings(settings(code, a)) {
                 ahrs::Started::Fresh(fresh) => {
                     self.ahrs = Some(fresh);
                     numbered(0)
@@ -147,7 +159,7 @@ impl Port {
         }
         let state = self.ahrs.expect("the script starts no filter");
         let change = match code {
-            0x81 => state.set_settings(settings(a)),
+            0x81 | 0x91 => state.set_settings(settings(code, a)),
             0x82 => state.set_sample_period(f(a[0])),
             0x83 => state.restart(),
             0x84 => state.skip_startup(),

@@ -48,6 +48,8 @@ tally! {
     ended "updates with which such axes are gone",
     limit "updates with a squared residual at its limit",
     beside_limit "updates with one a step beside it",
+    angles "updates under limits of angles",
+    angle_limit "updates with a squared residual at such a limit",
     ignored "updates that ignore a sensor",
     longer "updates that make a count of ignored ones longer",
     hundred "updates that make one longer than 100",
@@ -68,6 +70,9 @@ tally! {
     order "orientations that another order of the sum decides otherwise",
     left "quaternions of zero left by an orientation",
     restarted "quaternions of zero left by a restart",
+    by_angles "settings by angles",
+    by_angles_refused "settings by angles refused",
+    other_kind "settings by angles after squared limits, or the other way round",
     readings "readings",
     readings_accepted "readings accepted",
     readings_refused5 "readings refused 5",
@@ -93,6 +98,10 @@ tally! {
     plain "calls without a state",
     rotated "of these, vectors turned by a matrix",
     other_zero "to a zero of another sign than by remap",
+    sines "of these, sines and cosines",
+    sines_small "sines and cosines below a degree",
+    sines5 "sines and cosines refused 5",
+    sines6 "sines and cosines refused 6",
     reads "reads beside an update or a reading",
     texts "states held to their text too",
     logs "logs",
@@ -119,8 +128,9 @@ fn steps(a: u32, b: u32) -> u32 {
 }
 
 impl Tally {
-    pub fn update(&mut self, r: &Record, number: u32, before: &[u32; 37], after: &[u32; 37]) {
+    pub fn update(&mut self, r: &Record, number: u32, angles: bool, before: &[u32; 37], after: &[u32; 37]) {
         self.updates += 1;
+        self.angles += u64::from(angles);
         self.accepted += u64::from(number == 0);
         self.refused5 += u64::from(number == 5);
         self.refused7 += u64::from(number == 7);
@@ -131,7 +141,7 @@ impl Tally {
         self.most_timeout += u64::from(before[TIMEOUT] == i32::MAX as u32);
         if number == 0 {
             self.rates(&r[1..4], before);
-            self.sensors(before, after);
+            self.sensors(angles, before, after);
             self.to_zero += u64::from(is_zero(is));
             self.on_far += u64::from(is_far(was));
             self.subnormal += u64::from(is.iter().any(|w| f(*w).is_subnormal()));
@@ -157,12 +167,25 @@ impl Tally {
         }
     }
 
+    /// Settings, by angles or not, after others.
+    pub fn settings_by(&mut self, by_angles: bool, number: u32, were_angles: bool) {
+        self.by_angles += u64::from(by_angles);
+        self.by_angles_refused += u64::from(by_angles && number != 0);
+        self.other_kind += u64::from(number == 0 && by_angles != were_angles);
+    }
+
     /// A call without a state.
     pub fn plain(&mut self, r: &Record, answer: &Answer) {
         self.plain += 1;
         if r[0] == 0x57 && answer.number == 0 {
             self.rotated += 1;
             self.other_zero += u64::from(other_zero(&r[1..], answer));
+        }
+        if matches!(r[0], 0x47 | 0x48) {
+            self.sines += 1;
+            self.sines_small += u64::from(f(r[1]).abs() < 1.0);
+            self.sines5 += u64::from(answer.number == 5);
+            self.sines6 += u64::from(answer.number == 6);
         }
     }
 
@@ -196,7 +219,7 @@ impl Tally {
         }
     }
 
-    fn sensors(&mut self, before: &[u32; 37], after: &[u32; 37]) {
+    fn sensors(&mut self, angles: bool, before: &[u32; 37], after: &[u32; 37]) {
         let (mut ignored, mut recovering, mut above, mut nearest) = (false, false, false, u32::MAX);
         for (sensor, limit) in [(ACCELERATION, LIMITS_USED), (MAGNETIC, LIMITS_USED + 1)] {
             let trigger = |w: &[u32; 37]| w[sensor + 3] as i32;
@@ -210,6 +233,7 @@ impl Tally {
         self.recovering += u64::from(recovering);
         self.above += u64::from(above);
         self.limit += u64::from(nearest == 0);
+        self.angle_limit += u64::from(nearest == 0 && angles);
         self.beside_limit += u64::from(nearest == 1);
     }
 

@@ -160,7 +160,7 @@ impl Script<'_> {
     }
 
     /// Settings of the one kind after those of the other, read back, with updates between.
-    fn both_kinds(&mut self) {
+    pub fn both_kinds(&mut self) {
         for _ in 0..4 {
             let code = self.random.pick(&SETTLING);
             if code < 0x90 {
@@ -179,7 +179,7 @@ impl Script<'_> {
     }
 
     /// Settings by angles with one or two words that may be refused.
-    fn strange_angles(&mut self) {
+    pub fn strange_angles(&mut self) {
         let mut s = self.angle_settings();
         let r = &mut self.random;
         for _ in 0..1 + r.below(2) {
