@@ -131,7 +131,11 @@ FAULTS = [
     ("an angle taken for a squared limit", "settings/limit.rs", "=> crate::trig::rejection_threshold(degrees)", "=> degrees", "updates"),
     ("a squared limit taken for an angle", "settings/limit.rs", "=> squared,\n            Limit::Degrees(degrees) => crate::trig",
      "=> crate::trig::rejection_threshold(squared),\n            Limit::Degrees(degrees) => crate::trig", "updates"),
-    ("an angle read back as its square", "settings/limit.rs", "Limit::Degrees(degrees) => degrees,", "Limit::Degrees(_) => self.squared(),", "updates"),
+    ("an angle read back as its square", "settings/limit.rs", "Limit::Degrees(degrees) => degrees,", "Limit::Degrees(_) => self.squared(),",
+     "updates"),
+    ("an angle kept as a squared limit", "ahrs/change.rs", "next.settings = settings;",
+     "let kept = crate::settings::Limit::Squared(settings.magnetic_rejection.given());\n"
+     "        next.settings = Settings { magnetic_rejection: kept, ..settings };", "updates"),
     ("an angle of 0 a limit of 0", "trig.rs", "if degrees == 0.0 {", "if false {", "updates"),
     ("an angle of minus zero a limit of 0", "trig.rs", "if degrees == 0.0 {", "if degrees.to_bits() == 0 {", "updates"),
     ("the sine of an angle not halved", "trig.rs", "0.5 * sin(degrees)", "sin(degrees)", "updates"),

@@ -9,7 +9,7 @@ use crate::record::{QUIET, READS, Record, to_text};
 use crate::rust;
 use crate::tally::Tally;
 use crate::words::of_v;
-use gateweave::ahrs::{Ahrs, Limit};
+use gateweave::ahrs::Ahrs;
 
 /// The first call that differs ends the run.
 pub fn differs(what: &str, call: &str, theirs: &[u32], ours: &[u32]) -> ! {
@@ -26,8 +26,7 @@ pub struct Differ {
     ahrs: Option<[u32; 37]>,
     axes: u32,
     ignored: [u32; 2],
-    /// Whether the limits are angles.
-    angles: bool,
+    in_degrees: bool,
     bias: [u32; 10],
 }
 
@@ -54,7 +53,7 @@ impl Differ {
         };
         let after = same_filter("the state after a call", || to_text(r), machine, &ours);
         if let (0x86, Some(before)) = (r[0], self.ahrs) {
-            self.tally.update(r, number, self.angles, &before, &after);
+            self.tally.update(r, number, self.in_degrees, &before, &after);
             self.tally.axes(self.axes, machine.axes);
             if number == 0 {
                 self.tally.counts(over(&r[1..4], &before), self.ignored, machine.ignored);
@@ -69,12 +68,11 @@ impl Differ {
         } else {
             self.tally.change(r, number, self.ahrs.as_ref().unwrap_or(&after));
             if matches!(r[0], 0x80 | 0x81 | 0x90 | 0x91) {
-                self.tally.settings_by(r[0] >= 0x90, number, self.angles);
+                self.tally.settings_by(r[0] >= 0x90, number, self.in_degrees);
             }
         }
         self.ahrs = Some(after);
-        (self.axes, self.ignored) = (machine.axes, machine.ignored);
-        self.angles = matches!(ours.settings.acceleration_rejection, Limit::Degrees(_));
+        (self.axes, self.ignored, self.in_degrees) = (machine.axes, machine.ignored, machine.in_degrees);
     }
 
     fn estimator(&mut self, r: &Record, number: u32, machine: &Machine) {
@@ -106,14 +104,14 @@ impl Differ {
     }
 }
 
-/// Holds the whole state of the filter to the port's, with the axes that went over and the counts of ignored updates behind it; the
-/// words of the state.
+/// Holds the whole state of the filter to the port's, with the axes that went over, the counts of ignored updates and the kinds of the
+/// limits behind it; the words of the state.
 pub fn same_filter(what: &str, call: impl Fn() -> String, machine: &Machine, filter: &Ahrs) -> [u32; 37] {
     let (theirs, ours) = (machine.ahrs_words(), port::of_ahrs(filter));
-    let [over, named] = [machine.axes, port::of_axes(filter.overrange_recovery)];
-    let [counted, counts] = [machine.ignored, port::of_counts(filter)];
-    if theirs != ours || over != named || counted != counts {
-        differs(what, &call(), &[&theirs[..], &[over], &counted].concat(), &[&ours[..], &[named], &counts].concat());
+    let ([acceleration, magnetic], kind) = (machine.ignored, u32::from(machine.in_degrees));
+    let (beside, beyond) = ([machine.axes, acceleration, magnetic, kind, kind], port::beyond(filter));
+    if theirs != ours || beside != beyond {
+        differs(what, &call(), &[&theirs[..], &beside].concat(), &[&ours[..], &beyond].concat());
     }
     theirs
 }

@@ -86,13 +86,21 @@ fn of_settings(s: &Settings) -> [u32; 7] {
 }
 
 /// A set of axes: 1 for x, 2 for y and 4 for z.
-pub fn of_axes(a: Axes) -> u32 {
+fn of_axes(a: Axes) -> u32 {
     u32::from(a.x) + 2 * u32::from(a.y) + 4 * u32::from(a.z)
 }
 
-/// How often in a row each sensor was ignored.
-pub fn of_counts(t: &Ahrs) -> [u32; 2] {
-    [t.acceleration.ignored_count, t.magnetic.ignored_count]
+/// What a state has beyond the Rust's: the axes that went over, how often in a row each sensor was ignored, and whether each limit is an
+/// angle.
+pub fn beyond(t: &Ahrs) -> [u32; 5] {
+    let kind = |limit: Limit| matches!(limit, Limit::Degrees(_)).into();
+    [
+        of_axes(t.overrange_recovery),
+        t.acceleration.ignored_count,
+        t.magnetic.ignored_count,
+        kind(t.settings.acceleration_rejection),
+        kind(t.settings.magnetic_rejection),
+    ]
 }
 
 pub fn of_ahrs(t: &Ahrs) -> [u32; 37] {

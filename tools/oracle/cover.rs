@@ -28,8 +28,6 @@ fn recovers(w: &[u32; 37], sensor: usize) -> bool {
 #[derive(Default)]
 pub struct Cover {
     pub machine: Machine,
-    /// Whether the limits in use come from angles that were given.
-    angles: bool,
     counts: BTreeMap<String, u64>,
 }
 
@@ -42,14 +40,14 @@ impl Cover {
         let code = r[0] & !QUIET;
         let before = self.machine.ahrs.is_some().then(|| self.machine.ahrs_words());
         let bias = self.machine.bias.map(|b| state::of_bias(&b));
-        let (axes, ignored) = (self.machine.axes, self.machine.ignored);
+        let (axes, ignored, were_angles) = (self.machine.axes, self.machine.ignored, self.machine.in_degrees);
         let answer = self.machine.call(r);
         let number = answer.number;
         self.count(&format!("{} {number}", call(code).unwrap().1), true);
         self.matrices(r, &answer);
         self.zeros(r, number);
         self.records(r, number);
-        self.degrees(r, number, self.angles);
+        self.degrees(r, number, were_angles);
         if let Some(before) = &before {
             self.orientations(r, number, before);
             self.axes(r, number, before, axes);
@@ -59,7 +57,6 @@ impl Cover {
             return;
         }
         match (code, before, bias) {
-            (0x80 | 0x81 | 0x90 | 0x91, ..) => self.angles = code >= 0x90,
             (0x86, Some(before), _) => {
                 self.update(r, &before);
                 self.counted(r, &before, ignored);
@@ -220,7 +217,7 @@ impl Cover {
     }
 
     fn update(&mut self, r: &Record, before: &[u32; 37]) {
-        let (after, angles) = (self.machine.ahrs_words(), self.angles);
+        let (after, angles) = (self.machine.ahrs_words(), self.machine.in_degrees);
         let startup = after[22] == 1;
         self.count("> startup ended", before[22] == 1 && !startup);
         self.count("> in startup", startup);

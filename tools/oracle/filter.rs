@@ -123,7 +123,7 @@ impl Machine {
         }
         let answer = self.keep_ahrs(code, next, 0, []);
         if answer.number == 0 {
-            self.limits = limits;
+            (self.limits, self.in_degrees) = (limits, !squared);
         }
         answer
     }

@@ -34,8 +34,9 @@ pub enum Side {
 #[derive(Clone, Default)]
 pub struct Machine {
     pub ahrs: Option<Ahrs>,
-    /// The two limits as given, squared or in degrees; the Rust keeps angles.
+    /// The two limits as given, and whether they are angles, which is all that the Rust keeps.
     pub limits: [u32; 2],
+    pub in_degrees: bool,
     /// The axes that went over; the Rust keeps whether some did.
     pub axes: u32,
     /// For how many updates in a row each sensor was ignored; the Rust keeps whether the last one ignored it.
