@@ -121,6 +121,9 @@ FAULTS = [
     ("the two limits in use swapped", "settings/config.rs",
      "acceleration_rejection: self.limit(acceleration),\n            magnetic_rejection: self.limit(magnetic),",
      "acceleration_rejection: self.limit(magnetic),\n            magnetic_rejection: self.limit(acceleration),", "updates"),
+    ("both limits of the first one's kind", "settings/config.rs", "magnetic_rejection: self.limit(magnetic),",
+     "magnetic_rejection: self.limit(match acceleration {\n                Limit::Squared(_) => Limit::Squared(magnetic.given()),\n"
+     "                Limit::Degrees(_) => magnetic,\n            }),", "updates"),
     ("a limit that is not finite refused with 6", "settings/config.rs", "            & acceleration.is_finite()\n", "", "updates"),
     ("an angle of 90 refused", "settings/limit.rs", "degrees <= RIGHT_ANGLE", "degrees < RIGHT_ANGLE", "updates"),
     ("an angle one step above 90 taken", "settings/limit.rs", "RIGHT_ANGLE: f32 = 90.0", "RIGHT_ANGLE: f32 = 90.00001", "updates"),

@@ -3,10 +3,12 @@
 use crate::generate::{Script, bits};
 use crate::machine::gives;
 use crate::record::record;
-use crate::state::{ACCELERATION, MAGNETIC};
+use crate::state::{self, ACCELERATION, MAGNETIC};
 
 /// No call of a script: the counts of ignored updates are set on both sides.
 pub const SET_COUNTS: u32 = 0x200;
+/// Nor is this: the settings are given anew, one limit squared and the other in degrees.
+pub const SET_KINDS: u32 = 0x201;
 
 impl Script<'_> {
     /// Some hundred updates under settings of their own.
@@ -23,7 +25,7 @@ impl Script<'_> {
     /// At a limit, at the overrange product, at a right angle, T below a trigger, at an end of what may be set or of what an update
     /// leaves, and one step beside each; a knock or a spell and what follows; limits of angles, and both kinds of them in turn.
     fn hard(&mut self) {
-        match self.random.below(17) {
+        match self.random.below(18) {
             0 | 1 => self.equal_limit(ACCELERATION),
             2 | 3 => self.equal_limit(MAGNETIC),
             4 => self.dot_zero(),
@@ -38,6 +40,7 @@ impl Script<'_> {
             13 => self.near_limit(MAGNETIC),
             14 => self.both_kinds(),
             15 => self.strange_angles(),
+            16 => self.unlike_limits(),
             _ => self.over(),
         }
     }
@@ -63,6 +66,21 @@ impl Script<'_> {
             (self.out)(&record(SET_COUNTS, &[]), &gives([]), &self.machine);
             self.go_on_any();
         }
+    }
+
+    /// Settings by angles, and then with one of these as its squared limit: of the Rust the settings are the same.
+    fn unlike_limits(&mut self) {
+        let s = self.angle_settings();
+        if self.put(0x91, &s) != 0 {
+            return;
+        }
+        let (answer, at) = (self.machine.call(&record(0x91, &s)), self.random.below(2) as usize);
+        self.machine.limits[at] = state::limit_of(f32::from_bits(s[4 + at])).to_bits();
+        self.machine.in_degrees[at] = false;
+        (self.out)(&record(SET_KINDS, &[]), &answer, &self.machine);
+        self.put(0x8E, &[]);
+        self.put(0x84, &[]);
+        self.row();
     }
 
     /// Calls of every other kind.

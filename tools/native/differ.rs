@@ -1,6 +1,6 @@
 //! Every call on both sides: the answers, the whole states after it, and one call that reads them, must be the same words.
 
-use crate::aim::SET_COUNTS;
+use crate::aim::{SET_COUNTS, SET_KINDS};
 use crate::axes::over;
 use crate::closed;
 use crate::machine::{Answer, Machine, Side, side};
@@ -26,7 +26,7 @@ pub struct Differ {
     ahrs: Option<[u32; 37]>,
     axes: u32,
     ignored: [u32; 2],
-    in_degrees: bool,
+    in_degrees: [bool; 2],
     bias: [u32; 10],
 }
 
@@ -36,6 +36,10 @@ impl Differ {
             self.port.set_counts(machine.ignored);
             self.ignored = machine.ignored;
             return;
+        }
+        if r[0] == SET_KINDS {
+            same_answer("the answer", r, answer, &self.port.set_limits(machine.limits, machine.in_degrees));
+            return self.filter(r, answer.number, machine);
         }
         let ours = self.port.call(r);
         same_answer("the answer", r, answer, &ours);
@@ -68,7 +72,7 @@ impl Differ {
         } else {
             self.tally.change(r, number, self.ahrs.as_ref().unwrap_or(&after));
             if matches!(r[0], 0x80 | 0x81 | 0x90 | 0x91) {
-                self.tally.settings_by(r[0] >= 0x90, number, self.in_degrees);
+                self.tally.settings_by(r[0] >= 0x90, number, self.in_degrees[0]);
             }
         }
         self.ahrs = Some(after);
@@ -108,8 +112,8 @@ impl Differ {
 /// limits behind it; the words of the state.
 pub fn same_filter(what: &str, call: impl Fn() -> String, machine: &Machine, filter: &Ahrs) -> [u32; 37] {
     let (theirs, ours) = (machine.ahrs_words(), port::of_ahrs(filter));
-    let ([acceleration, magnetic], kind) = (machine.ignored, u32::from(machine.in_degrees));
-    let (beside, beyond) = ([machine.axes, acceleration, magnetic, kind, kind], port::beyond(filter));
+    let ([acceleration, magnetic], [one, two]) = (machine.ignored, machine.in_degrees.map(u32::from));
+    let (beside, beyond) = ([machine.axes, acceleration, magnetic, one, two], port::beyond(filter));
     if theirs != ours || beside != beyond {
         differs(what, &call(), &[&theirs[..], &beside].concat(), &[&ours[..], &beyond].concat());
     }

@@ -1,8 +1,8 @@
 //! Every pattern of 32 bits: the root and the conversions beside the Rust's, what is said of a pattern, sine and cosine beside 02's
 //! reference, and the limit of an angle beside the Rust's.
 
-use crate::degrees::RIGHT_ANGLE;
 use crate::differ::differs;
+use crate::filter::RIGHT_ANGLE;
 use crate::rust;
 use crate::sines::{is_near, refusal};
 use crate::words::bits;

@@ -61,16 +61,21 @@ pub fn said(answer: Said) -> Answer {
     }
 }
 
+/// A limit, squared or in degrees.
+fn limit(word: u32, in_degrees: bool) -> Limit {
+    if in_degrees { Limit::Degrees(f(word)) } else { Limit::Squared(f(word)) }
+}
+
 /// The limits of calls 90 and 91 are angles.
 fn settings(code: u32, a: &[u32]) -> Settings {
-    let limit = if code < 0x90 { Limit::Squared } else { Limit::Degrees };
+    let in_degrees = code >= 0x90;
     Settings {
         sample_rate: f(a[0]),
         convention: choice(a[1]),
         gain: f(a[2]),
         gyroscope_range: f(a[3]),
-        acceleration_rejection: limit(f(a[4])),
-        magnetic_rejection: limit(f(a[5])),
+        acceleration_rejection: limit(a[4], in_degrees),
+        magnetic_rejection: limit(a[5], in_degrees),
         rejection_timeout: f(a[6]),
     }
 }
@@ -148,6 +153,15 @@ impl Port {
     pub fn set_counts(&mut self, [acceleration, magnetic]: [u32; 2]) {
         let state = self.ahrs.as_mut().expect("the script starts no filter");
         (state.acceleration.ignored_count, state.magnetic.ignored_count) = (acceleration, magnetic);
+    }
+
+    /// Settings with these limits of these kinds, which no call gives unlike, and else the ones in use.
+    pub fn set_limits(&mut self, words: [u32; 2], in_degrees: [bool; 2]) -> Answer {
+        let state = self.ahrs.expect("the script starts no filter");
+        let [acceleration_rejection, magnetic_rejection] = [0, 1].map(|i| limit(words[i], in_degrees[i]));
+        let change = state.set_settings(Settings { acceleration_rejection, magnetic_rejection, ..state.settings });
+        self.ahrs = Some(change.state);
+        numbered(change.number)
     }
 
     fn is_lent(&mut self) -> bool {

@@ -48,8 +48,9 @@ tally! {
     ended "updates with which such axes are gone",
     limit "updates with a squared residual at its limit",
     beside_limit "updates with one a step beside it",
-    angles "updates under limits of angles",
+    angles "updates under a limit of an angle",
     angle_limit "updates with a squared residual at such a limit",
+    unlike "updates under a limit of an angle beside a squared one",
     ignored "updates that ignore a sensor",
     longer "updates that make a count of ignored ones longer",
     hundred "updates that make one longer than 100",
@@ -128,9 +129,10 @@ fn steps(a: u32, b: u32) -> u32 {
 }
 
 impl Tally {
-    pub fn update(&mut self, r: &Record, number: u32, angles: bool, before: &[u32; 37], after: &[u32; 37]) {
+    pub fn update(&mut self, r: &Record, number: u32, in_degrees: [bool; 2], before: &[u32; 37], after: &[u32; 37]) {
         self.updates += 1;
-        self.angles += u64::from(angles);
+        self.angles += u64::from(in_degrees[0] || in_degrees[1]);
+        self.unlike += u64::from(in_degrees[0] != in_degrees[1]);
         self.accepted += u64::from(number == 0);
         self.refused5 += u64::from(number == 5);
         self.refused7 += u64::from(number == 7);
@@ -141,7 +143,7 @@ impl Tally {
         self.most_timeout += u64::from(before[TIMEOUT] == i32::MAX as u32);
         if number == 0 {
             self.rates(&r[1..4], before);
-            self.sensors(angles, before, after);
+            self.sensors(in_degrees, before, after);
             self.to_zero += u64::from(is_zero(is));
             self.on_far += u64::from(is_far(was));
             self.subnormal += u64::from(is.iter().any(|w| f(*w).is_subnormal()));
@@ -219,21 +221,23 @@ impl Tally {
         }
     }
 
-    fn sensors(&mut self, angles: bool, before: &[u32; 37], after: &[u32; 37]) {
-        let (mut ignored, mut recovering, mut above, mut nearest) = (false, false, false, u32::MAX);
-        for (sensor, limit) in [(ACCELERATION, LIMITS_USED), (MAGNETIC, LIMITS_USED + 1)] {
+    fn sensors(&mut self, in_degrees: [bool; 2], before: &[u32; 37], after: &[u32; 37]) {
+        let (mut ignored, mut recovering, mut above, mut nearest, mut at_angle) = (false, false, false, u32::MAX, false);
+        for (sensor, limit, angle) in [(ACCELERATION, LIMITS_USED, in_degrees[0]), (MAGNETIC, LIMITS_USED + 1, in_degrees[1])] {
             let trigger = |w: &[u32; 37]| w[sensor + 3] as i32;
             let square = Vector::new(f(after[sensor]), f(after[sensor + 1]), f(after[sensor + 2])).norm_squared();
             ignored |= after[sensor + 5] == 1;
             recovering |= trigger(after) > after[sensor + 4] as i32;
             above |= trigger(before) > before[TIMEOUT] as i32;
-            nearest = nearest.min(steps(square.to_bits(), after[limit]));
+            let beside = steps(square.to_bits(), after[limit]);
+            nearest = nearest.min(beside);
+            at_angle |= angle && beside == 0;
         }
         self.ignored += u64::from(ignored);
         self.recovering += u64::from(recovering);
         self.above += u64::from(above);
         self.limit += u64::from(nearest == 0);
-        self.angle_limit += u64::from(nearest == 0 && angles);
+        self.angle_limit += u64::from(at_angle);
         self.beside_limit += u64::from(nearest == 1);
     }
 

@@ -40,7 +40,7 @@ impl Cover {
         let code = r[0] & !QUIET;
         let before = self.machine.ahrs.is_some().then(|| self.machine.ahrs_words());
         let bias = self.machine.bias.map(|b| state::of_bias(&b));
-        let (axes, ignored, were_angles) = (self.machine.axes, self.machine.ignored, self.machine.in_degrees);
+        let (axes, ignored, were_angles) = (self.machine.axes, self.machine.ignored, self.machine.in_degrees[0]);
         let answer = self.machine.call(r);
         let number = answer.number;
         self.count(&format!("{} {number}", call(code).unwrap().1), true);
@@ -217,7 +217,7 @@ impl Cover {
     }
 
     fn update(&mut self, r: &Record, before: &[u32; 37]) {
-        let (after, angles) = (self.machine.ahrs_words(), self.machine.in_degrees);
+        let (after, angles) = (self.machine.ahrs_words(), self.machine.in_degrees[0]);
         let startup = after[22] == 1;
         self.count("> startup ended", before[22] == 1 && !startup);
         self.count("> in startup", startup);

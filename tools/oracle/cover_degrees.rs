@@ -1,7 +1,7 @@
 //! What a script reaches of sines and cosines, and of limits in degrees.
 
 use crate::cover::{Cover, SENSORS};
-use crate::degrees::RIGHT_ANGLE;
+use crate::filter::RIGHT_ANGLE;
 use crate::record::{QUIET, Record, call};
 use crate::words::{MINUS_ZERO, f};
 

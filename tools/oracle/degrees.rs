@@ -1,15 +1,14 @@
 //! Limits in degrees: sines and cosines where they are easily got wrong; settings by angles of every kind among settings by squared
 //! limits; and updates under limits that come from angles.
 
+use crate::filter::RIGHT_ANGLE;
 use crate::generate::{Script, bits};
 use crate::random::Random;
 use crate::record::{Record, record};
 use crate::state::{self, ACCELERATION, MAGNETIC, QUATERNION};
 use crate::words::{MINUS_ZERO, f};
 
-/// The largest angle of rejection.
-pub const RIGHT_ANGLE: f32 = 90.0;
-/// Sizes at which a sine, or what is made of it, changes its manner.
+/// Sizes at which a sine, or what is made of it, changes its manner; the last eight are the multiples of 45.
 const PLACES: [f32; 15] =
     [0.0, 1e-45, f32::MIN_POSITIVE, 1e-20, 0.01, 0.5, 1.0, 45.0, RIGHT_ANGLE, 135.0, 180.0, 225.0, 270.0, 315.0, 360.0];
 /// Settings by squared limits and by angles, starts first.
@@ -95,6 +94,7 @@ impl Script<'_> {
     pub fn some_degrees(&mut self) {
         self.by_angles = 4;
         PLACES.map(|place| self.at_place(place, 0));
+        // A multiple of 45 below 360, which is taken on either side of it.
         let (octant, steps) = (self.random.pick(&PLACES[7..14]), self.random.pick(&[-1, 1]));
         self.at_place(octant, steps);
         self.at_place(360.0, 1);
@@ -153,7 +153,7 @@ impl Script<'_> {
         }
     }
 
-    fn angle_settings(&mut self) -> [u32; 7] {
+    pub fn angle_settings(&mut self) -> [u32; 7] {
         let [rate, convention, gain, range, .., timeout, _, _] = self.ahrs_settings();
         let r = &mut self.random;
         [rate, convention, gain, range, angle(r), angle(r), timeout]

@@ -9,7 +9,7 @@ use fusion_ahrs::{Ahrs, AhrsSettings, Convention, Quaternion};
 
 /// The most that a limit may be: squared, or in degrees.
 pub const ANY_SIZE: f32 = f32::MAX;
-const RIGHT_ANGLE: f32 = 90.0;
+pub const RIGHT_ANGLE: f32 = 90.0;
 
 /// The refusal that settings get before anything is derived from them, or 0. Angles beside squared limits are not looked at.
 pub fn unfit(a: &[u32], most: f32) -> u32 {
@@ -123,7 +123,7 @@ impl Machine {
         }
         let answer = self.keep_ahrs(code, next, 0, []);
         if answer.number == 0 {
-            (self.limits, self.in_degrees) = (limits, !squared);
+            (self.limits, self.in_degrees) = (limits, [!squared; 2]);
         }
         answer
     }

@@ -34,9 +34,9 @@ pub enum Side {
 #[derive(Clone, Default)]
 pub struct Machine {
     pub ahrs: Option<Ahrs>,
-    /// The two limits as given, and whether they are angles, which is all that the Rust keeps.
+    /// The two limits as given, and whether each is an angle; the Rust keeps angles alone.
     pub limits: [u32; 2],
-    pub in_degrees: bool,
+    pub in_degrees: [bool; 2],
     /// The axes that went over; the Rust keeps whether some did.
     pub axes: u32,
     /// For how many updates in a row each sensor was ignored; the Rust keeps whether the last one ignored it.
