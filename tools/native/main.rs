@@ -48,6 +48,8 @@ mod random;
 mod record;
 #[path = "../oracle/recording.rs"]
 mod recording;
+#[path = "../oracle/reference.rs"]
+mod reference;
 #[path = "opened.rs"]
 mod rust;
 #[path = "../oracle/sines.rs"]

@@ -21,6 +21,7 @@ mod plain;
 mod random;
 mod record;
 mod recording;
+mod reference;
 mod rows;
 #[path = "closed.rs"]
 mod rust;

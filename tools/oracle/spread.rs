@@ -7,9 +7,11 @@
 //! says the range's place in the list, how many numbers the piece has, and for each distance that is taken: at how many it is 0, the most,
 //! the bits of the number where that is, and the sum.
 
+mod reference;
+
 use fusion_ahrs::{DEG_TO_RAD, ahrs};
 use gateweave::trig;
-use std::f64::consts::PI;
+use reference::reference;
 use std::fmt::Write;
 use std::ops::Range;
 use std::sync::atomic::{AtomicUsize, Ordering};
@@ -44,24 +46,6 @@ impl Seen {
 /// The squared limit of an angle, in units in the last place.
 fn limits(degrees: f32) -> [f64; 1] {
     [f64::from(trig::rejection_threshold(degrees).to_bits().abs_diff(ahrs::rejection_threshold(degrees).to_bits()))]
-}
-
-fn series(coefficients: [f64; 6], u: f64) -> f64 {
-    coefficients.iter().fold(0.0, |sum, c| sum * u + c)
-}
-
-/// 02's reference of the sine some quarter turns on, worked out in f64.
-fn reference(degrees: f32, quarters: i32) -> f64 {
-    let x = f64::from(degrees);
-    let nearest = ((x - 45.0) / 90.0).ceil();
-    let t = (x - 90.0 * nearest) * (PI / 180.0);
-    let quarter = (nearest as i32 + quarters).rem_euclid(4);
-    let size = if quarter % 2 == 0 {
-        t * series([-1.0 / 39916800.0, 1.0 / 362880.0, -1.0 / 5040.0, 1.0 / 120.0, -1.0 / 6.0, 1.0], t * t)
-    } else {
-        series([-1.0 / 3628800.0, 1.0 / 40320.0, -1.0 / 720.0, 1.0 / 24.0, -1.0 / 2.0, 1.0], t * t)
-    };
-    if quarter < 2 { size } else { -size }
 }
 
 /// How far two numbers are apart; a NaN is apart from everything.
