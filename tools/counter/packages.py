@@ -18,13 +18,11 @@ def fetch(architecture, into, *patterns):
         return
     if not shutil.which("apt-get") or not shutil.which("dpkg-deb"):
         command.stop("the packages are missing: no apt-get to fetch them from Debian")
-    state, debs = DEB / "apt" / architecture, DEB / "packages" / into / architecture
-    for folder in (state / "lists/partial", state / "archives/partial", debs, DEB / into):
+    debs = DEB / "packages" / into / architecture
+    for folder in (debs, DEB / into):
         folder.mkdir(parents=True, exist_ok=True)
-    (state / "status").touch()
-    apt = [f"-oAPT::Architecture={architecture}", f"-oAPT::Architectures::={architecture}", f"-oDir::State={state}",
-           f"-oDir::State::status={state}/status", f"-oDir::Cache={state}", "-oAPT::Sandbox::User=root"]
-    build.quietly("apt-get", *apt, "-qq", "update", why="Debian's lists of packages were not fetched")
+    apt = build.lists(DEB / "apt" / architecture, "Debian's lists of packages were not fetched", f"-oAPT::Architecture={architecture}",
+                      f"-oAPT::Architectures::={architecture}")
     for pattern in patterns:
         named = build.quietly("apt-cache", *apt, "pkgnames", pattern.rstrip("*"), why="apt-cache does not answer").split()
         fitting = [n for n in named if n == pattern or pattern.endswith("*")]

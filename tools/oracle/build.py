@@ -115,6 +115,16 @@ def published(sources, into, private):
     return into
 
 
+def lists(state, why, *options):
+    """The options by which apt-get keeps lists of packages of its own in a folder, where they are fetched: the machine's may be none."""
+    for folder in ("lists/partial", "archives/partial"):
+        (state / folder).mkdir(parents=True, exist_ok=True)
+    (state / "status").touch()
+    apt = [*options, f"-oDir::State={state}", f"-oDir::State::status={state}/status", f"-oDir::Cache={state}", "-oAPT::Sandbox::User=root"]
+    quietly("apt-get", *apt, "-qq", "update", why=why)
+    return apt
+
+
 def libm(given):
     """The root file of libm's source: from the folder given, or from Debian's package, unpacked here and not installed."""
     if given:
@@ -128,7 +138,7 @@ def libm(given):
         if not shutil.which("apt-get") or not shutil.which("dpkg-deb"):
             stop(f"libm's source is missing: no apt-get to fetch Debian's {PACKAGE} (--libm FOLDER)")
         why = f"libm's source is missing: Debian's {PACKAGE} was not fetched (--libm FOLDER)"
-        quietly("apt-get", "-qq", "-o", "APT::Sandbox::User=root", "download", PACKAGE, why=why, cwd=deb)
+        quietly("apt-get", *lists(deb / "apt", why), "-qq", "download", PACKAGE, why=why, cwd=deb)
         for package in deb.glob("*.deb"):
             quietly("dpkg-deb", "-x", package, deb, why=f"the package {package.name} was not unpacked")
         found = sorted(deb.glob(unpacked))

@@ -1,5 +1,5 @@
--- 02 P3, "demand 2 holds from the derived limit on": of two filters, one by angles and one by the squared limits that these stand for, every call tells the same
--- and leaves the same, but for how the limits were given. So what is compared with the Rust of squared limits is said of angles too.
+-- 02 P3, "demand 2 holds from the derived limit on": of two filters, one by angles and one by the squared limits that these stand for, every call tells the
+-- same and leaves the same, but for how the limits were given. So what is compared with the Rust of squared limits is said of angles too.
 use mathlib.Core.Path.{_≡_}
 use mathlib.Core.List.{List, [], _∷_}
 use Rattle.answer.specs.Refusals.{refusalOf}
