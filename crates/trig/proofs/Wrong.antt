@@ -94,50 +94,35 @@ code (Refused n) = 0x1_0000_0000 + n
 abbrev Says : (Float → Float) → Float → Number → Type 0
 Says f x r = Gives x (f x) r
 
--- 30 and 60 refused; 400 refused with 5, with 7, and taken; NaN refused with 6, and taken; and answers of 0 and of 0.5001
-pub of-sin-degrees
-    : (Says sinOf thirty (Refused 6) → ⊥)
-    × (Says sinOf far (Refused 5) → ⊥)
-    × (Says sinOf far (Refused 7) → ⊥)
-    × (Says sinOf far (Value half) → ⊥)
-    × (Says sinOf nan (Refused 6) → ⊥)
-    × (Says sinOf nan (Value nan) → ⊥)
-    × (Says sinOf thirty (Value nought) → ⊥)
-    × (AnswersNear (sineAt thirty) (Value over-half) → ⊥)
-unfolding sinOf slopeOf floatOf sizeOf minusOf gridOf radiansOf sineFixedOf cosineFixedOf perDegreeOf scaledOf stageOf turns left leftMinus
-    fabsfOf le lt eq neg add sum mul div round units odd ofInt ofBits toBits refusalOf within waveAt quarter sineNum sineDen cosineNum cosineDen
-of-sin-degrees = (
-  λ h. apart code (h .exact) refl,
-  λ h. apart code (h .exact) refl,
-  λ h. apart code (h .exact) refl,
-  λ h. apart code (h .exact) refl,
-  λ h. apart code (h .exact) refl,
-  λ h. apart code (h .exact) refl,
-  λ h. apart code (h .exact) refl,
-  λ h. h,
+-- of either: 30 refused; 400 refused with 5, with 7, and taken; NaN refused with 6, and taken
+pub of-either
+    : (f : Float → Float)
+    → (Says f thirty (Refused 6) → ⊥)
+    × (Says f far (Refused 5) → ⊥)
+    × (Says f far (Refused 7) → ⊥)
+    × (Says f far (Value half) → ⊥)
+    × (Says f nan (Refused 6) → ⊥)
+    × (Says f nan (Value nan) → ⊥)
+unfolding refusalOf le lt eq neg ofBits
+of-either f = (
+  λ h. unlike 6 0 refl (h .number),
+  λ h. unlike 5 6 refl (h .number),
+  λ h. unlike 7 6 refl (h .number),
+  λ h. unlike 0 6 refl (h .number),
+  λ h. unlike 6 5 refl (h .number),
+  λ h. unlike 0 5 refl (h .number),
 )
 
-pub of-cos-degrees
-    : (Says cosOf sixty (Refused 6) → ⊥)
-    × (Says cosOf far (Refused 5) → ⊥)
-    × (Says cosOf far (Refused 7) → ⊥)
-    × (Says cosOf far (Value half) → ⊥)
-    × (Says cosOf nan (Refused 6) → ⊥)
-    × (Says cosOf nan (Value nan) → ⊥)
-    × (Says cosOf sixty (Value nought) → ⊥)
-    × (AnswersNear (cosineAt sixty) (Value over-half) → ⊥)
+-- answers of 0 and of 0.5001 for a half
+pub of-sin-degrees : (Says sinOf thirty (Value nought) → ⊥) × (AnswersNear (sineAt thirty) (Value over-half) → ⊥)
+unfolding sinOf slopeOf floatOf sizeOf minusOf gridOf radiansOf sineFixedOf cosineFixedOf perDegreeOf scaledOf stageOf turns left leftMinus
+    fabsfOf le lt eq neg add sum mul div round units odd ofInt ofBits toBits refusalOf within waveAt quarter sineNum sineDen cosineNum cosineDen
+of-sin-degrees = (λ h. apart code (h .exact) refl, λ h. h)
+
+pub of-cos-degrees : (Says cosOf sixty (Value nought) → ⊥) × (AnswersNear (cosineAt sixty) (Value over-half) → ⊥)
 unfolding cosOf floatOf sizeOf minusOf gridOf radiansOf sineFixedOf cosineFixedOf scaledOf stageOf turns left leftMinus
     le lt eq neg add sum div round units odd ofInt ofBits toBits refusalOf within waveAt quarter sineNum sineDen cosineNum cosineDen
-of-cos-degrees = (
-  λ h. apart code (h .exact) refl,
-  λ h. apart code (h .exact) refl,
-  λ h. apart code (h .exact) refl,
-  λ h. apart code (h .exact) refl,
-  λ h. apart code (h .exact) refl,
-  λ h. apart code (h .exact) refl,
-  λ h. apart code (h .exact) refl,
-  λ h. h,
-)
+of-cos-degrees = (λ h. apart code (h .exact) refl, λ h. h)
 
 -- ---- the limit
 
