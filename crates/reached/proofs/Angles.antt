@@ -24,9 +24,10 @@ use Rattle.step.specs.Rate.{startupGainOf, rateOf, integratedOf}
 use Rattle.ahrs.specs.declared.Ahrs.{Ahrs}
 use Rattle.ahrs.specs.Filter.{finiteState, freshOf, restartedOf, skippedStartup, withSettings, withSamplePeriod, withQuaternion}
 use Rattle.ahrs.specs.Filter.{softRestartedOf, overrangeOf, halfFeedbackOf, updatedOf}
+use Rattle.ahrs.specs.Read.{gravityOf, linearOf, earthOf, flagsOf, statesOf}
 use Rattle.ahrs.specs.Calls.{updateChecks, orientedOf, stateChecks, changeChecks, periodChecks, quaternionChecks}
 use Rattle.reached.specs.Runs.{Call, update, restart, skip-startup, set-settings, set-sample-period, set-quaternion, outlineOf}
-use Rattle.reached.specs.Angles.{squaredState, AlikeRun, none, next, FromTheLimitOn}
+use Rattle.reached.specs.Angles.{squaredState, AlikeRun, none, next, FromTheLimitOn, ReadsAlike}
 use Rattle.reached.proofs.Counting.{after-overrange}
 use Rattle.reached.proofs.Accepting.{start-accepted, change-accepted}
 
@@ -158,3 +159,15 @@ from-the-limit-on t e cs =
     let s = start-accepted t e in
     runs-alike cs (freshOf t (derivedOf t)) (freshOf (squaredSettings t) (derivedOf (squaredSettings t))) (accepted-fit t (s .finite) (s .sound)) refl
     (ap (λ (c : Config). squaredState (freshOf t c)) (sym (same-derived t)))
+
+pub reads-alike : ReadsAlike
+unfolding gravityOf linearOf earthOf flagsOf statesOf
+reads-alike =
+    record {
+      gravity = λ s. refl;
+      linear = λ s. refl;
+      earth = λ s. refl;
+      flags = λ s. refl;
+      states = λ s. refl;
+      ignored = λ s. refl;
+    }

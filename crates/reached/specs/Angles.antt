@@ -9,6 +9,7 @@ use Rattle.settings.specs.Config.{derivedOf, settingsChecks}
 use Rattle.settings.specs.Angles.{squaredSettings}
 use Rattle.ahrs.specs.declared.Ahrs.{Ahrs}
 use Rattle.ahrs.specs.Filter.{freshOf}
+use Rattle.ahrs.specs.Read.{gravityOf, linearOf, earthOf, flagsOf, statesOf, ignoredOf}
 use Rattle.reached.specs.Runs.{Call, outlineOf}
 
 -- a state whose limits are given as the squared ones that they stand for
@@ -40,3 +41,12 @@ FromTheLimitOn =
     (t : Settings) → refusalOf (settingsChecks t) ≡ 0 → (cs : List Call)
     → AlikeRun (runOf outlineOf (freshOf t (derivedOf t)) cs)
     (runOf outlineOf (freshOf (squaredSettings t) (derivedOf (squaredSettings t))) cs)
+
+-- and what is read of a state, but its settings, is the same
+pub record ReadsAlike : Type 0 where
+  pub gravity : (s : Ahrs) → gravityOf (squaredState s) ≡ gravityOf s
+  pub linear : (s : Ahrs) → linearOf (squaredState s) ≡ linearOf s
+  pub earth : (s : Ahrs) → earthOf (squaredState s) ≡ earthOf s
+  pub flags : (s : Ahrs) → flagsOf (squaredState s) ≡ flagsOf s
+  pub states : (s : Ahrs) → statesOf (squaredState s) ≡ statesOf s
+  pub ignored : (s : Ahrs) → ignoredOf (squaredState s) ≡ ignoredOf s
