@@ -12,11 +12,11 @@ use Rattle.answer.specs.Order.{First, numbered}
 use Rattle.answer.proofs.Ordering.{by-the-order}
 
 -- a list that ascends from k: its first number is k at least, and the rest ascends from there
-first-number : (k : ℕ) (c : Check) (cs : List Check) → T (ascends k (c ∷ cs)) → k ≤ c .number
+pub first-number : (k : ℕ) (c : Check) (cs : List Check) → T (ascends k (c ∷ cs)) → k ≤ c .number
 unfolding ascends
 first-number k c cs t = leb→le k (c .number) (and-l (leb k (c .number)) (ascends (c .number) cs) t)
 
-rest-ascends : (k : ℕ) (c : Check) (cs : List Check) → T (ascends k (c ∷ cs)) → T (ascends (c .number) cs)
+pub rest-ascends : (k : ℕ) (c : Check) (cs : List Check) → T (ascends k (c ∷ cs)) → T (ascends (c .number) cs)
 unfolding ascends
 rest-ascends k c cs t = and-r (leb k (c .number)) (ascends (c .number) cs) t
 

@@ -76,7 +76,7 @@ scaled-within p k a b c d u r (fw, fx, fy, fz) =
 
 -- ---- the theorem
 
-sized : (x : Float) → T (fits binary32 x) → finite x ≡ true → (a : ℕ) × Sized x a
+pub sized : (x : Float) → T (fits binary32 x) → finite x ≡ true → (a : ℕ) × Sized x a
 sized x t f = let (s, a, h) = in-units x t f in (a, (s, h))
 
 pub length-kept : (p : Quaternion) → Fits p → finiteQuaternion (normalizeOf p) ≡ true → finite (normSquaredOf p) ≡ true → within (normalizeOf p) ≡ true

@@ -7,16 +7,17 @@ use native.Mathlib.Nat.{zero-mul, one-mul, mul-one}
 use native.Mathlib.Omega.{arith}
 use lib.IntN.{ℤ, pos}
 use lib.Dec.{T, eqb→eq}
-use lib.Ieee.{Float, nan, inf, fin, Format, up, down, unlike, round, neg, add, mul, fits}
-use lib.Ieee.Fits.{mul-fits}
+use lib.Ieee.{Float, nan, inf, fin, Format, up, down, unlike, round, neg, add, sub, mul, fits}
+use lib.Ieee.Fits.{neg-fits, mul-fits}
 use lib.Ieee.Scale.{finite}
+use Rattle.number.specs.Float32 as float
 use Rattle.number.specs.Same.{plain, Same}
 use Rattle.number.proofs.Signs.{round-zero, mul-neg}
-use Rattle.number.proofs.Same.{same-of, sum-left}
+use Rattle.number.proofs.Same.{sum-left, same-refl, same-of, same-trans, same-add, same-eq}
 use Rattle.number.proofs.Size.{nought, flat}
 use Rattle.number.proofs.Exact.{round-own}
 use Rattle.number.proofs.Plain as plain
-use Rattle.number.proofs.Zeros.{Zero, mul-zero}
+use Rattle.number.proofs.Zeros.{Zero, of-eq, to-eq, neg-zero, mul-zero}
 
 abbrev unit : Float
 unit = fin false 1 (pos 0)
@@ -73,3 +74,19 @@ zero-plus f (fin s m e) t =
 
 pub plus-zero : (f : Format) (x : Float) → T (fits f x) → Same (add f x nought) x
 plus-zero f x t = record { number = ap plain (plain.plus-zero f x t) ∙ plain.plain-plain x }
+
+-- a zero of either sign changes nothing but the sign of a zero
+module _ (f : Format) (x n : Float) (t : T (fits f x)) (k : T (fits f n)) (z : Zero n) where
+  pub plus-none : Same (add f x n) x
+  plus-none = same-trans (same-add f (same-refl x) (same-nought f n k z)) (plus-zero f x t)
+
+  pub none-plus : Same (add f n x) x
+  none-plus = same-trans (same-add f (same-nought f n k z) (same-refl x)) (zero-plus f x t)
+
+pub minus-none : (f : Format) (x n : Float) → T (fits f x) → T (fits f n) → Zero n → Same (sub f x n) x
+unfolding sub
+minus-none f x n t k z = plus-none f x (neg n) t (neg-fits f n k) (neg-zero n z)
+
+-- one number's floats are zeros together
+pub same-zero : {x y : Float} → Same x y → Zero x → Zero y
+same-zero {x} {y} p z = of-eq y (sym (same-eq p (same-refl float.zero)) ∙ to-eq x z)

@@ -1,10 +1,11 @@
 -- A rounded fraction lies near the fraction: at most 2 ^ -24 of it and half of the smallest f32 away; and a whole number of the smallest at most 2 ^ -24
--- of it. Assumes nothing.
+-- of it. What rounds to zero is at most half of the smallest. Assumes nothing.
 use mathlib.Core.Path.{_≡_, sym, ap, _∙_, subst}
 use mathlib.Core.Logic.{_⊎_, inl, inr}
 use mathlib.Core.Bool.{not}
 use Prim.Native.Nat.{ℕ, _+_, _-_, _*_, _/_, _%_, _^_, _≤_, _<_, compare, Ordering, Ordering·lt, Ordering·eq, Ordering·gt}
-use native.Mathlib.Nat.{le-trans, le-of-eq, eq-zero-or-pos, mod-lt, div-add-mod', mul-one, mul-pos, mul-le-mul-right, le-of-mul-le-mul-right, le-div-iff-mul-le}
+use native.Mathlib.Nat.{le-trans, le-of-eq, eq-zero-or-pos, mod-lt, div-add-mod', zero-mul, mul-one, mul-pos, mul-le-mul-right, le-div-iff-mul-le}
+use native.Mathlib.Nat.{le-of-mul-le-mul-right}
 use native.Mathlib.Omega.{arith}
 use lib.Pow.{pow-add, pow-pos}
 use lib.Dec.{T, isLe, isEq, leb→le, nleb→lt, eqb→eq}
@@ -94,3 +95,13 @@ rounded-whole a c w C e = go (a * 2 ^ 149) (grid binary32 a c) e (kept-half 24 (
           over = le-of-mul-le-mul-right {k = c} (omega arith) C;
           under = le-of-mul-le-mul-right {k = c} (omega arith) C;
         }
+
+-- n / c units that round to none are at most half of one
+pub rounded-away : (a c : ℕ) → 0 < c → grid binary32 a c ≡ 0 → 2 * (a * 2 ^ 149) ≤ c
+rounded-away a c C z =
+    let n = a * 2 ^ 149 in
+    go n (grid binary32 a c * c) (ap (λ (g : ℕ). g * c) z ∙ zero-mul c) (kept-half 24 n c C) (last-digit 24 n c (omega arith) C)
+  where
+    go : (n g : ℕ) {u : ℕ} → g ≡ 0 → Half u g n → (u ≡ c) ⊎ (8388608 * u ≤ n) → 2 * n ≤ c
+    go n g e h (inl l) = omega arith
+    go n g e h (inr l) = omega arith

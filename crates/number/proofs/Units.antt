@@ -1,8 +1,8 @@
 -- A finite f32 is a whole number of units of 2 ^ -149, the smallest f32. Products, sums and reciprocals in these units, and how near they lie to the
 -- exact ones. Assumes nothing.
-use mathlib.Core.Path.{_≡_, refl, sym, ap, _∙_, subst}
+use mathlib.Core.Path.{_≡_, refl, sym, ap, ap₂, _∙_, subst}
 use mathlib.Core.Bool.{Bool, true, false, true≢false, false≢true}
-use Prim.Native.Nat.{ℕ, _+_, _*_, _^_, _<_}
+use Prim.Native.Nat.{ℕ, _+_, _*_, _^_, _≤_, _<_}
 use native.Mathlib.Nat.{mul-pos, mul-mul-mul-comm, le-of-mul-le-mul-right}
 use native.Mathlib.Omega.{arith}
 use borrow.Author.Tests.{ne-eqb}
@@ -16,7 +16,7 @@ use lib.Ieee.Positive.{first-pos}
 use lib.Ieee.Scale.{round-same, grid, overflow, finite, round-under}
 use Rattle.number.proofs.Signs.{round-neg, finite-neg}
 use Rattle.number.proofs.Exact.{whole-number}
-use Rattle.number.proofs.Rounding.{Rounded, rounded, RoundedWhole, rounded-whole}
+use Rattle.number.proofs.Rounding.{Rounded, rounded, RoundedWhole, rounded-whole, rounded-away}
 
 -- x has the sign s and is a units
 pub record Units (x : Float) (s : Bool) (a : ℕ) : Type 0 where
@@ -75,21 +75,26 @@ module _ (x y : Float) {s t : Bool} {a b : ℕ} (h : Units x s a) (k : Units y t
   unfolding times
   mul-bounded f = bounded (unlike s t) (a * b) (2 ^ 149 * 2 ^ 149) (ap finite (sym mul-is) ∙ f)
 
--- ---- a sum of two that are not negative
+-- ---- a sum of two of one sign
 
 unfoldable pub plus : ℕ → ℕ → ℕ
 plus a b = grid binary32 (a + b) (2 ^ 149)
 
-add-value : (x y : Float) (a b c : ℕ) → 0 < c → HasValue x false a c → HasValue y false b c → add binary32 x y ≡ round binary32 false (a + b) c
-unfolding add sum
-add-value nan y a b c C h k = absurd h
-add-value (inf s) y a b c C h k = absurd h
-add-value (fin true m e) y a b c C h k = absurd (true≢false (h .0))
-add-value (fin false m e) nan a b c C h k = absurd k
-add-value (fin false m e) (inf t) a b c C h k = absurd k
-add-value (fin false m e) (fin true n i) a b c C h k = absurd (true≢false (k .0))
-add-value (fin false m e) (fin false n i) a b c C h k =
-    round-same binary32 false (m * up e * down i + n * up i * down e) (down e * down i) (a + b) c (mul-pos (down-pos e) (down-pos i)) C
+one-sign : (s : Bool) (a b c : ℕ) → sum binary32 s a s b c ≡ round binary32 s (a + b) c
+unfolding sum
+one-sign true a b c = refl
+one-sign false a b c = refl
+
+add-value : (x y : Float) (s : Bool) (a b c : ℕ) → 0 < c → HasValue x s a c → HasValue y s b c → add binary32 x y ≡ round binary32 s (a + b) c
+unfolding add
+add-value nan y s a b c C h k = absurd h
+add-value (inf u) y s a b c C h k = absurd h
+add-value (fin u m e) nan s a b c C h k = absurd k
+add-value (fin u m e) (inf v) s a b c C h k = absurd k
+add-value (fin u m e) (fin v n i) s a b c C h k =
+    ap₂ (λ (g j : Bool). sum binary32 g (m * up e * down i) j (n * up i * down e) (down e * down i)) (h .0) (k .0)
+    ∙ one-sign s (m * up e * down i) (n * up i * down e) (down e * down i)
+    ∙ round-same binary32 s (m * up e * down i + n * up i * down e) (down e * down i) (a + b) c (mul-pos (down-pos e) (down-pos i)) C
     (cross (m * up e) (n * up i) (down e) (down i) (h .1) (k .1))
   where
     cross : (x y d g : ℕ) → x * c ≡ a * d → y * c ≡ b * g → (x * g + y * d) * c ≡ (a + b) * (d * g)
@@ -98,17 +103,17 @@ add-value (fin false m e) (fin false n i) a b c C h k =
         let v : y * c * d ≡ b * g * d = ap (λ (z : ℕ). z * d) q in
         omega arith
 
-module _ (x y : Float) {a b : ℕ} (h : Units x false a) (k : Units y false b) where
-  add-is : add binary32 x y ≡ round binary32 false (a + b) (2 ^ 149)
-  add-is = add-value x y a b (2 ^ 149) (pow-pos 149) (h .value) (k .value)
+module _ (x y : Float) {s : Bool} {a b : ℕ} (h : Units x s a) (k : Units y s b) where
+  add-is : add binary32 x y ≡ round binary32 s (a + b) (2 ^ 149)
+  add-is = add-value x y s a b (2 ^ 149) (pow-pos 149) (h .value) (k .value)
 
-  pub add-units : plus a b < overflow binary32 → Units (add binary32 x y) false (plus a b)
+  pub add-units : plus a b < overflow binary32 → Units (add binary32 x y) s (plus a b)
   unfolding plus
-  add-units l = subst (λ (z : Float). Units z false (plus a b)) (sym add-is) (rounds false (a + b) (2 ^ 149) l)
+  add-units l = subst (λ (z : Float). Units z s (plus a b)) (sym add-is) (rounds s (a + b) (2 ^ 149) l)
 
   pub add-bounded : finite (add binary32 x y) ≡ true → plus a b < overflow binary32
   unfolding plus
-  add-bounded f = bounded false (a + b) (2 ^ 149) (ap finite (sym add-is) ∙ f)
+  add-bounded f = bounded s (a + b) (2 ^ 149) (ap finite (sym add-is) ∙ f)
 
 -- ---- a reciprocal
 
@@ -156,6 +161,14 @@ times-near a b = go (2 ^ 149) (a * b) (times a b) (pow-pos 149) (rounded (a * b)
   where
     go : (u n g : ℕ) → 0 < u → Rounded (n * u) (u * u) g → Rounded n u g
     go u n g U h = record { over = le-of-mul-le-mul-right {k = u} (omega arith) U; under = le-of-mul-le-mul-right {k = u} (omega arith) U }
+
+-- a product that rounds to none is at most half of a unit
+pub times-away : (a b : ℕ) → times a b ≡ 0 → 2 * (a * b) ≤ 2 ^ 149
+unfolding times
+times-away a b z = go (2 ^ 149) (a * b) (pow-pos 149) (rounded-away (a * b) (2 ^ 149 * 2 ^ 149) (mul-pos (pow-pos 149) (pow-pos 149)) z)
+  where
+    go : (u n : ℕ) → 0 < u → 2 * (n * u) ≤ u * u → 2 * n ≤ u
+    go u n U h = le-of-mul-le-mul-right {k = u} (omega arith) U
 
 pub plus-near : (a b : ℕ) → RoundedWhole (a + b) (plus a b)
 unfolding plus

@@ -49,6 +49,10 @@ pub neg-zero : (x : Float) → Zero x → Zero (neg x)
 unfolding neg
 neg-zero (fin s m e) z = z
 
+pub of-neg-zero : (x : Float) → Zero (neg x) → Zero x
+unfolding neg
+of-neg-zero (fin s m e) z = z
+
 pub mul-zero : (f : Format) (x y : Float) → Zero x → finite y ≡ true → Zero (mul f x y)
 unfolding mul
 mul-zero f (fin s m e) nan z h = absurd (false≢true h)
