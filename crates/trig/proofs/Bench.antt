@@ -1,7 +1,7 @@
 -- Examples by evaluation: what the reference takes, which multiple of 90 it takes off, and what the port gives. Assumes nothing.
 use Prim.Native.Nat.{ℕ}
 use mathlib.Core.Path.{_≡_, refl}
-use mathlib.Core.Bool.{Bool, _&&_}
+use mathlib.Core.Bool.{Bool, not, _&&_}
 use lib.Dec.{T, eqb}
 use lib.Ieee.{Float, binary32, ofBits, toBits, le, lt, eq, neg, add, sum, mul, div, round, units, odd, ofInt}
 use Rattle.number.specs.Same.{fabsfOf}
@@ -9,8 +9,10 @@ use Rattle.number.proofs.Apart.{bits}
 use Rattle.trig.specs.Series.{sineNum, sineDen, cosineNum, cosineDen}
 use Rattle.trig.specs.Degrees.{Fraction, turns, left, leftMinus, quarter, waveAt, sineAt, cosineAt, within}
 use Rattle.trig.specs.Fixed.{scaledOf, stageOf, sineFixedOf, cosineFixedOf, perDegreeOf}
-use Rattle.trig.specs.Wave.{gridOf, radiansOf, sizeOf, minusOf, floatOf, slopeOf, sinOf, cosOf}
+use Rattle.trig.specs.Wave.{stepsOf, gridOf, radiansOf, sizeOf, minusOf, floatOf, slopeOf, sinOf, cosOf}
 use Rattle.trig.specs.Limit.{rejectionThresholdOf}
+use Rattle.trig.specs.Octant.{sineStep, cosineStep, guessOf, halvedOf, spanOf, nearerOf, octantOf}
+use Rattle.trig.specs.Angle.{isAngle, ratioOf, degreesOf, bearingOf, angleOf}
 
 -- ---- the reference
 
@@ -71,3 +73,53 @@ limits
 unfolding rejectionThresholdOf sinOf slopeOf floatOf sizeOf minusOf gridOf radiansOf sineFixedOf cosineFixedOf perDegreeOf scaledOf stageOf turns left
     leftMinus fabsfOf le lt eq neg add sum mul div round units odd ofInt ofBits toBits
 limits = tt
+
+-- ---- the angle
+
+-- the float with the bits r meets 02's conditions for those with the bits y and x
+abbrev meets : ℕ → ℕ → ℕ → Bool
+meets y x r = isAngle (ofBits binary32 y) (ofBits binary32 x) (ofBits binary32 r)
+
+-- 45 for (1, 1), -135 for (-1, -1), 90 for (1, 0), -90 for (-1, 0), and 180 for (0, -1) and for (-0, -1)
+angles
+    : T
+    (meets 0x3f80_0000 0x3f80_0000 0x4234_0000 && meets 0xbf80_0000 0xbf80_0000 0xc307_0000 && meets 0x3f80_0000 0 0x42b4_0000
+    && meets 0xbf80_0000 0 0xc2b4_0000 && meets 0 0xbf80_0000 0x4334_0000 && meets 0x8000_0000 0xbf80_0000 0x4334_0000)
+unfolding isAngle waveAt turns left leftMinus quarter sineNum sineDen cosineNum cosineDen lt le eq neg ofBits
+angles = tt
+
+-- but not -180 for either; for (1, 1) neither 45.0001, nor -135, nor 0; and nothing for (0, 0), which has its own sentence
+no-angles
+    : T
+    (not (meets 0 0xbf80_0000 0xc334_0000) && not (meets 0x8000_0000 0xbf80_0000 0xc334_0000) && not (meets 0x3f80_0000 0x3f80_0000 0x4234_001a)
+    && not (meets 0x3f80_0000 0x3f80_0000 0xc307_0000) && not (meets 0x3f80_0000 0x3f80_0000 0) && not (meets 0 0 0))
+unfolding isAngle waveAt turns left leftMinus quarter sineNum sineDen cosineNum cosineDen lt le eq neg ofBits
+no-angles = tt
+
+abbrev points : ℕ → ℕ → ℕ → Bool
+points y x r = eqb (bits (angleOf (ofBits binary32 y) (ofBits binary32 x))) r
+
+-- of the zeros of each sign plus zero; of (0, -1) and (-0, -1) 180; of (1, 0), (-1, 0), (1, 1), (-1, -1) and (1, 2)
+port-angles
+    : T
+    (points 0 0 0 && points 0x8000_0000 0 0 && points 0 0x8000_0000 0 && points 0x8000_0000 0x8000_0000 0 && points 0 0xbf80_0000 0x4334_0000
+    && points 0x8000_0000 0xbf80_0000 0x4334_0000 && points 0x3f80_0000 0 0x42b4_0000 && points 0xbf80_0000 0 0xc2b4_0000
+    && points 0x3f80_0000 0x3f80_0000 0x4234_0000 && points 0xbf80_0000 0xbf80_0000 0xc307_0000 && points 0x3f80_0000 0x4000_0000 0x41d4_8538)
+unfolding angleOf bearingOf degreesOf ratioOf octantOf guessOf sineStep cosineStep stepsOf radiansOf sineFixedOf cosineFixedOf scaledOf stageOf fabsfOf
+    le lt eq neg div round units odd ofInt ofBits toBits
+port-angles = tt
+
+-- of the smallest floats, of the largest, of one of each, where no step is left of the quotient, and of an infinity and a NaN
+port-ends
+    : T
+    (points 1 1 0x4234_0000 && points 1 2 0x41d4_8538 && points 0x8000_0001 0x8000_0002 0xc319_6f59 && points 0x7f7f_ffff 0x7f7f_ffff 0x4234_0000
+    && points 1 0xff7f_ffff 0x4334_0000 && points 0x8000_0001 0xff7f_ffff 0x4334_0000 && points 0x7f7f_ffff 1 0x42b4_0000
+    && points 0x7f80_0000 0x3f80_0000 0x7fc0_0000 && points 0x3f80_0000 0x7fc0_0000 0x7fc0_0000)
+unfolding angleOf bearingOf degreesOf ratioOf octantOf guessOf sineStep cosineStep stepsOf radiansOf sineFixedOf cosineFixedOf scaledOf stageOf fabsfOf
+    le lt eq neg div round units odd ofInt ofBits toBits
+port-ends = tt
+
+-- the bisection at the tangents 0, a half and 1
+bisections : T (eqb (nearerOf 0 (spanOf 0 22)) 0 && eqb (nearerOf 8388608 (spanOf 8388608 22)) 1740967 && eqb (nearerOf 16777216 (spanOf 16777216 22)) 2949120)
+unfolding nearerOf spanOf halvedOf sineStep cosineStep radiansOf sineFixedOf cosineFixedOf scaledOf stageOf
+bisections = tt

@@ -67,7 +67,7 @@ module _ (j k l : ℕ) (room : j * k ≤ l * one) (L : l ≤ one) where
 -- ---- the sine
 
 -- of one sign or the other
-abbrev Within : ℕ → Float → Type 0
+abbrev pub Within : ℕ → Float → Type 0
 Within k x = Bounded true k x ⊎ Bounded false k x
 
 wide : (s : Bool) (k : ℕ) (x : Float) → Bounded s k x → Within k x
@@ -85,7 +85,7 @@ small-within (fin s m e) h =
     wide s (one + 96) (mul binary32 (fin s m e) (slopeOf (fin s m e)))
     (rw (sloped s m e) (quotient s (m * up e * p) (down e * 536870912) one (mul-pos (down-pos e) (lit< tt)) (le-refl one) (omega arith)))
 
-sine-within : (x : Float) → T (inTurn x) → Within (one + 96) (sinOf x)
+pub sine-within : (x : Float) → T (inTurn x) → Within (one + 96) (sinOf x)
 unfolding sinOf
 sine-within x t = rw (is-true (inTurn x) t) (go (lt (fabsfOf x) float.one) refl)
   where

@@ -1,6 +1,6 @@
 -- The size that is worked out on the grid is within 6 units of 2 ^ -30 of the exact reference, and the sign is its own. Assumes nothing.
-use Prim.Native.Nat.{ℕ, _+_, _*_, _%_, _^_, _≤_, _<_}
-use native.Mathlib.Nat.{le-trans, mul-le-mul-right, le-of-mul-le-mul-right, div-mul-le-self, lt-div-mul-add, le-of-lt}
+use Prim.Native.Nat.{ℕ, _+_, _-_, _*_, _/_, _%_, _^_, _≤_, _<_}
+use native.Mathlib.Nat.{le-trans, le-of-lt, mul-le-mul, mul-le-mul-right, le-of-mul-le-mul-right, div-mul-le-self, div-le-of-le-mul, lt-div-mul-add}
 use native.Mathlib.Omega.{arith}
 use mathlib.Core.Path.{_≡_, refl}
 use mathlib.Core.Logic.{_⊎_, inl, inr}
@@ -55,9 +55,12 @@ module _ (d l b : ℕ) (over : d * b ≤ l * degree + b) (under : l * degree ≤
   pub at-most-one : l * piTop ≤ b * (180 * piBottom)
   at-most-one = omega arith
 
-pub radians-small : (d : ℕ) → d ≤ 45 * degree → radiansOf d ≤ one
+radians-most : (d : ℕ) → d ≤ 45 * degree → radiansOf d ≤ 843314857
 unfolding radiansOf
-radians-small d h = omega (arith, div-mul-le-self (d * piOver180) twoTo33)
+radians-most d h = omega (arith, div-mul-le-self (d * piOver180) twoTo33)
+
+pub radians-small : (d : ℕ) → d ≤ 45 * degree → radiansOf d ≤ one
+radians-small d h = omega (arith, radians-most d h)
 
 six : (v top bottom : ℕ) → Around one 5 v top bottom → Around one 6 v top bottom
 six v top bottom near = record { over = omega (arith, near .over); under = omega (arith, near .under) }
@@ -126,6 +129,21 @@ size-small k y = go (eqb ((turns y degree + k) % 2) 0)
     go : (even : Bool) → cond even (sineFixedOf (restOf y)) (cosineFixedOf (restOf y)) ≤ one
     go true = sine-small (restOf y) (rest-small y)
     go false = stage-small _ _ _
+
+-- ---- the cosine of at most 45 degrees is above 0.69
+
+square-most : (t : ℕ) → t ≤ 843314857 → t * t / (1 * one) ≤ 662337945
+square-most t h = div-le-of-le-mul (1 * one) (omega (arith, mul-le-mul h h))
+
+last-stage : (u h : ℕ) → u ≤ 662337945 → h ≤ one → 742572851 ≤ one - u * h / (2 * one)
+last-stage u h U H =
+    let s : u * h ≤ 662337945 * one = mul-le-mul U H in
+    let t : u * h / (2 * one) ≤ 331168973 = div-le-of-le-mul (2 * one) (omega arith) in
+    omega arith
+
+pub cosine-wide : (d : ℕ) → d ≤ 45 * degree → 742572851 ≤ cosineFixedOf (radiansOf d)
+unfolding cosineFixedOf stageOf scaledOf
+cosine-wide d h = last-stage _ _ (square-most (radiansOf d) (radians-most d h)) (omega arith)
 
 -- ---- what the calls of `rounded` come to, at an even and at an odd quarter
 

@@ -31,7 +31,7 @@ module _ (k n : ℕ) (K : k ≤ 120) (h : n ≤ 16777216) where
   scaled : n * 2 ^ 149 ≡ n * 2 ^ j * 2 ^ k
   scaled = ap (λ (z : ℕ). n * z) (sym parts) ∙ sym (mul-assoc n (2 ^ j) (2 ^ k))
 
-  rounded-power : HasValue (round binary32 false n (2 ^ k)) false n (2 ^ k)
+  pub rounded-power : HasValue (round binary32 false n (2 ^ k)) false n (2 ^ k)
   unfolding j
   rounded-power = go (eq-or-lt-of-le h)
     where

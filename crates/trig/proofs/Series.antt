@@ -9,7 +9,7 @@ use Rattle.trig.specs.Series.{sineNum, sineDen, cosineNum, cosineDen}
 use Rattle.trig.proofs.Around.{Around, Stage, times, stage, cut-fixed}
 use Rattle.trig.proofs.Nested.{top, bot, sines, cosines, sine-series, sine-bottom, cosine-series, cosine-bottom}
 
-abbrev nested : ℕ → List ℕ → ℕ
+abbrev pub nested : ℕ → List ℕ → ℕ
 nested u [] = one
 nested u (c ∷ cs) = one - u * nested u cs / (c * one)
 

@@ -91,7 +91,7 @@ cut-value (fin false m e) a b B v h =
 
 -- ---- an angle in its range
 
-either-le : (p q r s : ℕ) (b : Bool) → (r ≡ s → p ≤ q) → T (ltb p q || (eqb r s && b)) → p ≤ q
+pub either-le : (p q r s : ℕ) (b : Bool) → (r ≡ s → p ≤ q) → T (ltb p q || (eqb r s && b)) → p ≤ q
 either-le p q r s b f t = go (ltb p q) refl t
   where
     go : (l : Bool) → ltb p q ≡ l → T (l || (eqb r s && b)) → p ≤ q

@@ -1,20 +1,25 @@
 -- Wrong answers that the promises refuse, each by evaluation. Assumes nothing.
 use Prim.Native.Nat.{ℕ, _+_}
 use mathlib.Core.Path.{_≡_, refl}
+use mathlib.Core.Bool.{true, false, true≢false, false≢true}
 use lib.Dec.{T}
 use lib.Ieee.{Float, nan, binary32, ofBits, toBits, le, lt, eq, neg, add, sum, mul, div, round, units, odd, ofInt}
+use lib.Ieee.Positive.{num}
+use lib.Ieee.Scale.{finite}
 use Rattle.answer.specs.Refusals.{refusalOf}
-use Rattle.number.specs.Float32.{_⊗_, largest}
+use Rattle.number.specs.Float32.{_⊗_, largest, infinity}
 use Rattle.number.specs.Same.{fabsfOf}
-use Rattle.number.proofs.Apart.{apart, bits, unlike, nought, one, half}
+use Rattle.number.proofs.Apart.{apart, bits, unlike, nought, minus-nought, one, minus-one, half, two}
 use Rattle.trig.specs.declared.calls.Number.{Number}
 use Rattle.trig.specs.declared.calls.Number.the-variants.{Value, Refused}
 use Rattle.trig.specs.Series.{sineNum, sineDen, cosineNum, cosineDen}
 use Rattle.trig.specs.Degrees.{inTurn, turns, left, leftMinus, quarter, waveAt, sineAt, cosineAt, within}
 use Rattle.trig.specs.Fixed.{scaledOf, stageOf, sineFixedOf, cosineFixedOf, perDegreeOf}
-use Rattle.trig.specs.Wave.{gridOf, radiansOf, sizeOf, minusOf, floatOf, slopeOf, sinOf, cosOf}
+use Rattle.trig.specs.Wave.{stepsOf, gridOf, radiansOf, sizeOf, minusOf, floatOf, slopeOf, sinOf, cosOf}
 use Rattle.trig.specs.Limit.{rejectionThresholdOf}
-use Rattle.trig.specs.Calls.{Gives, AnswersNear}
+use Rattle.trig.specs.Octant.{sineStep, cosineStep, guessOf, octantOf}
+use Rattle.trig.specs.Angle.{straight, isAngle, Angled, nowhere, toward, ratioOf, degreesOf, bearingOf, angleOf}
+use Rattle.trig.specs.Calls.{Gives, AnswersNear, GivesAngle, AnswersAngled}
 
 abbrev thirty : Float
 thirty = ofBits binary32 0x41f0_0000
@@ -40,6 +45,18 @@ over-half = ofBits binary32 0x3f00_0690
 pub of-turns : (turns 405 1 ≡ 5 → ⊥) × (turns 495 1 ≡ 6 → ⊥)
 unfolding turns
 of-turns = (λ h. unlike _ _ refl h, λ h. unlike _ _ refl h)
+
+-- ---- the range
+
+-- 30 and 360 out of it; 361, -361 and NaN in it
+pub of-in-turn
+    : (false ≡ inTurn thirty → ⊥)
+    × (false ≡ inTurn (ofBits binary32 0x43b4_0000) → ⊥)
+    × (true ≡ inTurn beyond → ⊥)
+    × (true ≡ inTurn (neg beyond) → ⊥)
+    × (true ≡ inTurn nan → ⊥)
+unfolding le lt eq neg ofBits
+of-in-turn = (false≢true, false≢true, true≢false, true≢false, true≢false)
 
 -- ---- the sine and the cosine
 
@@ -144,3 +161,83 @@ of-rejection-threshold = (
   λ h. apart bits h refl,
   λ h. apart bits h refl,
 )
+
+-- ---- the angle
+
+abbrev Angle : Float → Float → Float → Type 0
+Angle y x r = (r ≡ angleOf y x) × (T (finite y) → T (finite x) → Angled y x r)
+
+-- no plus zero, as x is not zero, and not what 02 asks
+refuted : {y x r : Float} → (num x ≡ 0 → ⊥) → (T (isAngle y x r) → ⊥) → Angled y x r → ⊥
+refuted f g (nowhere a b e) = f b
+refuted f g (toward t) = g t
+
+-- of (1, 2) what (2, 1) has, and the opposite
+abbrev mirrored : Float
+mirrored = ofBits binary32 0x427d_bd64
+
+abbrev opposite : Float
+opposite = ofBits binary32 0xc319_6f59
+
+-- by the bound alone: of (1, 2) those two, a constant 0, a constant 90 and NaN; of (0, -1) and (-0, -1) -180; of (1, 1) 45.0001
+pub of-angle
+    : (Angle one two mirrored → ⊥)
+    × (Angle one two opposite → ⊥)
+    × (Angle one two nought → ⊥)
+    × (Angle one two ninety → ⊥)
+    × (Angle one two nan → ⊥)
+    × (Angle nought minus-one (neg straight) → ⊥)
+    × (Angle minus-nought minus-one (neg straight) → ⊥)
+    × (Angle one one (ofBits binary32 0x4234_001a) → ⊥)
+unfolding isAngle waveAt turns left leftMinus quarter sineNum sineDen cosineNum cosineDen ofBits neg le lt eq
+of-angle = (
+  λ h. refuted (unlike _ _ refl) (λ t. t) (h .1 tt tt),
+  λ h. refuted (unlike _ _ refl) (λ t. t) (h .1 tt tt),
+  λ h. refuted (unlike _ _ refl) (λ t. t) (h .1 tt tt),
+  λ h. refuted (unlike _ _ refl) (λ t. t) (h .1 tt tt),
+  λ h. refuted (unlike _ _ refl) (λ t. t) (h .1 tt tt),
+  λ h. refuted (unlike _ _ refl) (λ t. t) (h .1 tt tt),
+  λ h. refuted (unlike _ _ refl) (λ t. t) (h .1 tt tt),
+  λ h. refuted (unlike _ _ refl) (λ t. t) (h .1 tt tt),
+)
+
+-- of (0, 0) a minus zero, 90 and NaN; of (1, 1) the f32 beside 45, which the bound would take; of an infinity and of a NaN 0
+pub of-angle-exactly
+    : (Angle nought nought minus-nought → ⊥)
+    × (Angle nought nought ninety → ⊥)
+    × (Angle nought nought nan → ⊥)
+    × (Angle one one (ofBits binary32 0x4234_0001) → ⊥)
+    × (Angle infinity one nought → ⊥)
+    × (Angle nan one nought → ⊥)
+unfolding angleOf bearingOf degreesOf ratioOf octantOf guessOf sineStep cosineStep stepsOf radiansOf sineFixedOf cosineFixedOf scaledOf stageOf fabsfOf
+    le lt eq neg div round units odd ofInt ofBits toBits
+of-angle-exactly = (
+  λ h. apart bits (h .0) refl,
+  λ h. apart bits (h .0) refl,
+  λ h. apart bits (h .0) refl,
+  λ h. apart bits (h .0) refl,
+  λ h. apart bits (h .0) refl,
+  λ h. apart bits (h .0) refl,
+)
+
+-- (0, 0) refused; a NaN and an infinity taken; a NaN refused with 6; and of (1, 2) a constant 0
+pub of-angle-degrees
+    : (GivesAngle nought nought (Refused 5) → ⊥)
+    × (GivesAngle one nan (Value nan) → ⊥)
+    × (GivesAngle infinity one (Value ninety) → ⊥)
+    × (GivesAngle nan one (Refused 6) → ⊥)
+    × (GivesAngle one two (Value nought) → ⊥)
+unfolding angleOf bearingOf degreesOf ratioOf octantOf guessOf sineStep cosineStep stepsOf radiansOf sineFixedOf cosineFixedOf scaledOf stageOf fabsfOf
+    le lt eq neg div round units odd ofInt ofBits toBits refusalOf
+of-angle-degrees = (
+  λ h. unlike 5 0 refl (h .number),
+  λ h. unlike 0 5 refl (h .number),
+  λ h. unlike 0 5 refl (h .number),
+  λ h. unlike 6 5 refl (h .number),
+  λ h. apart code (h .exact) refl,
+)
+
+-- what is answered for (1, 2) mirrored, and for (0, -1) -180
+pub of-answered-angle : (AnswersAngled one two (Value mirrored) → ⊥) × (AnswersAngled nought minus-one (Value (neg straight)) → ⊥)
+unfolding isAngle waveAt turns left leftMinus quarter sineNum sineDen cosineNum cosineDen ofBits neg le lt eq
+of-answered-angle = (λ h. refuted (unlike _ _ refl) (λ t. t) h, λ h. refuted (unlike _ _ refl) (λ t. t) h)

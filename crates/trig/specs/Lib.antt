@@ -3,4 +3,6 @@ pub mod Degrees
 pub mod Fixed
 pub mod Wave
 pub mod Limit
+pub mod Octant
+pub mod Angle
 pub mod Calls

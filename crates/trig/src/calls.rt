@@ -1,10 +1,11 @@
-// The sine and the cosine of any f32, by the refusal table.
+// The sine and the cosine of any f32, and the angle of any two, by the refusal table.
+use super::point;
 use super::wave;
 ghost use mathlib.Core.Path.{_≡_};
 ghost use Rattle.answer.specs.Refusals.{refusalOf};
 ghost use Rattle.trig.specs.Degrees.{sineAt, cosineAt};
 ghost use Rattle.trig.specs.Wave.{sinOf, cosOf};
-ghost use Rattle.trig.specs.Calls.{angleChecks, Gives, AnswersNear};
+ghost use Rattle.trig.specs.Calls.{angleChecks, Gives, AnswersNear, GivesAngle, AnswersAngled};
 
 // A number that was worked out, or a refusal's.
 pub enum Number {
@@ -45,4 +46,15 @@ pub fn cos_degrees(x: f32) -> Number
         return Number::Refused(number);
     }
     Number::Value(wave::cos(x))
+}
+
+// The angle of any point, above -180 and at most 180 degrees.
+pub fn angle_degrees(y: f32, x: f32) -> Number
+    ensures { λ r. ⌜ GivesAngle y x r ⌝ }
+    ensures toward { λ r. ⌜ AnswersAngled y x r ⌝ }
+{
+    if !(number::is_finite(y) & number::is_finite(x)) {
+        return Number::Refused(5);
+    }
+    Number::Value(point::angle(y, x))
 }

@@ -13,7 +13,7 @@ const HALF: u64 = 536870912;
 const SLOPE: u64 = 9370165;
 
 // a * b / c.
-fn scaled(a: u64, b: u64, c: u64) -> u64
+pub(crate) fn scaled(a: u64, b: u64, c: u64) -> u64
     requires { ⌜ (a ≤ one) × (b ≤ one) × (0 < c) × (c ≤ 128) ⌝ }
     ensures { λ r. ⌜ r ≡ scaledOf a b c ⌝ }
     ensures small { λ r. ⌜ r ≤ one ⌝ }

@@ -41,14 +41,14 @@ const TWO_TO_29: f32 = 536870912.0;
 // What a fixed-point number is divided by.
 const TWO_TO_30: f32 = 1073741824.0;
 
-pub(crate) fn in_turn(x: f32) -> bool
+pub fn in_turn(x: f32) -> bool
     ensures { λ r. ⌜ r ≡ inTurn x ⌝ }
 {
     (-TURN <= x) & (x <= TURN)
 }
 
 // The size of x on the grid, cut toward zero.
-fn steps(x: f32) -> u64
+pub(crate) fn steps(x: f32) -> u64
     requires { ⌜ T (inTurn x) ⌝ }
     ensures { λ r. ⌜ r ≡ stepsOf x ⌝ }
     ensures small { λ r. ⌜ r ≤ 360 * degree ⌝ }
@@ -77,14 +77,14 @@ fn quarters(y: u64) -> u64
     (y + EIGHTH - 1) / QUARTER
 }
 
-fn difference(a: u64, b: u64) -> u64
+pub(crate) fn difference(a: u64, b: u64) -> u64
     ensures { λ r. ⌜ r ≡ apart a b ⌝ }
 {
     if a < b { b - a } else { a - b }
 }
 
 // An angle of d steps of the grid in radians, in fixed point.
-fn radians(d: u64) -> u64
+pub(crate) fn radians(d: u64) -> u64
     requires { ⌜ d ≤ 45 * degree ⌝ }
     ensures { λ r. ⌜ r ≡ radiansOf d ⌝ }
     ensures small { λ r. ⌜ r ≤ one ⌝ }
