@@ -1,0 +1,2 @@
+pub mod Turn
+pub mod Calls
