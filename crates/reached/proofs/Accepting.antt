@@ -1,18 +1,19 @@
--- What an accepted start, settings change, update or quaternion says: settings that derive a finite configuration and a T not below 0, a finite next
--- state, or a finite quaternion of a length that may be set.
+-- What an accepted start, settings change, update, quaternion or heading says: settings that derive a finite configuration and a T not below 0, a finite
+-- next state, a finite quaternion of a length that may be set, or a finite one that is turned.
 -- Assumes nothing.
-use mathlib.Core.Path.{_≡_}
-use mathlib.Core.Bool.{true, not, _&&_}
+use mathlib.Core.Path.{_≡_, sym, ap, _∙_}
+use mathlib.Core.Bool.{Bool, true, false, not, _&&_}
 use mathlib.Core.List.{[]}
 use lib.IntN.{pos}
-use lib.Ieee.{lt}
+use lib.Ieee.{Float, lt}
 use lib.Ieee.Scale.{finite}
 use Rattle.number.specs.Float32 as float
 use Rattle.answer.specs.Refusals.{refusalOf}
-use Rattle.answer.proofs.Answering.{passed}
-use Rattle.answer.proofs.Tests.{both, untrue}
+use Rattle.answer.proofs.Answering.{passed, unfailed}
+use Rattle.answer.proofs.Tests.{both, untrue, still}
+use Rattle.trig.specs.Degrees.{inTurn}
 use Rattle.vector.specs.declared.Vector.{Vector}
-use Rattle.vector.specs.Vectors.{finiteVector}
+use Rattle.vector.specs.Vectors.{zeroVector, finiteVector}
 use Rattle.math.specs.declared.quaternion.Quaternion.{Quaternion}
 use Rattle.math.specs.Quaternions.{finiteQuaternion}
 use Rattle.rejection.specs.Inside.{NotBelow}
@@ -22,6 +23,8 @@ use Rattle.settings.specs.Config.{knownConvention, finiteSettings, soundSetting
 use Rattle.ahrs.specs.declared.Ahrs.{Ahrs}
 use Rattle.ahrs.specs.Filter.{finiteState, updatedOf}
 use Rattle.ahrs.specs.Calls.{updateChecks, changeChecks, settable, quaternionChecks}
+use Rattle.heading.specs.Turn.{finitePoint, yawOf, rollOf, headedOf}
+use Rattle.heading.specs.Calls.{headable, setChecks, externalOf, externalChecks, unaidedOf, unaidedChecks}
 use Rattle.reached.proofs.Timeouts.{product-cut}
 
 timeout-cut : (t : Settings) → finiteSettings t ≡ true → soundSettings t ≡ true → NotBelow (pos 0) (derivedOf t .«rejection_timeout»)
@@ -83,3 +86,42 @@ quaternion-accepted s q e =
     let k = passed 3 (knownConvention (s .settings)) _ e in
     let f = passed 4 (finiteState s && finiteQuaternion q) _ (k .1) in
     (both (finiteState s) (finiteQuaternion q) (f .0) .1, passed 8 (settable q) [] (f .1) .0)
+
+-- ---- headings
+
+pub heading-accepted : (s : Ahrs) (h : Float) → refusalOf (setChecks s h) ≡ 0 → finiteQuaternion (headedOf (s .quaternion) h) ≡ true
+unfolding headable
+heading-accepted s h e =
+    let k = passed 3 (knownConvention (s .settings)) _ e in
+    let f = passed 4 (finiteState s) _ (k .1) in
+    let n = passed 4 (finite h) _ (f .1) in
+    let t = passed 5 (inTurn h) _ (n .1) in
+    both (finitePoint (yawOf (s .quaternion))) _ (passed 6 (headable (s .quaternion) h) [] (t .1) .0) .1
+
+pub external-accepted : (s : Ahrs) (g a : Vector) (h : Float) → refusalOf (externalChecks s g a h) ≡ 0 → finiteState (externalOf s g a h) ≡ true
+external-accepted s g a h e =
+    let k = passed 3 (knownConvention (s .settings)) _ e in
+    let f = passed 4 (finiteState s) _ (k .1) in
+    let n = passed 4 (finiteVector g && finiteVector a && finite h) _ (f .1) in
+    let t = passed 5 (inTurn h) _ (n .1) in
+    let p = passed 6 (finitePoint (rollOf (s .quaternion))) _ (t .1) in
+    passed 6 (finiteState (externalOf s g a h)) [] (p .1) .0
+
+module _ (s : Ahrs) (g a : Vector) (e : refusalOf (unaidedChecks s g a) ≡ 0) where
+  rest : (finiteState (unaidedOf s g a) ≡ true) × ((unaidedOf s g a .startup && not (headable (unaidedOf s g a .quaternion) float.zero)) ≡ false)
+  rest =
+      let k = passed 3 (knownConvention (s .settings)) _ e in
+      let f = passed 4 (finiteState s && (finiteVector g && finiteVector a && finiteVector zeroVector)) _ (k .1) in
+      let n = passed 6 (finiteState (unaidedOf s g a)) _ (f .1) in
+      (n .0, unfailed 6 (unaidedOf s g a .startup && not (headable (unaidedOf s g a .quaternion) float.zero)) [] (n .1) .0)
+
+  -- both halves
+  pub unaided-accepted : finiteState (unaidedOf s g a) ≡ true
+  unaided-accepted = rest .0
+
+  pub north-accepted : unaidedOf s g a .startup ≡ true → finiteQuaternion (headedOf (unaidedOf s g a .quaternion) float.zero) ≡ true
+  unfolding headable
+  north-accepted t =
+      let q = unaidedOf s g a .quaternion in
+      let h = still (headable q float.zero) (ap (λ (b : Bool). b && not (headable q float.zero)) (sym t) ∙ rest .1) in
+      both (finitePoint (yawOf q)) _ h .1

@@ -5,12 +5,13 @@ use mathlib.Core.Bool.{Bool, true, false, cond, _&&_}
 use mathlib.Core.List.{List, [], _∷_}
 use lib.Ieee.{Float}
 use lib.Ieee.Scale.{finite}
+use Rattle.number.specs.Float32 as float
 use Rattle.answer.specs.Refusals.{refusalOf, accepted}
 use Rattle.answer.specs.declared.Answer.the-variants.{Refused}
-use Rattle.answer.specs.Runs.{answer, number, stepOf, runOf}
+use Rattle.answer.specs.Runs.{Told, answer, number, stepOf, runOf}
 use Rattle.answer.proofs.Running.{settled}
 use Rattle.vector.specs.declared.Vector.{Vector}
-use Rattle.vector.specs.Vectors.{finiteVector, mulOf}
+use Rattle.vector.specs.Vectors.{zeroVector, finiteVector, mulOf}
 use Rattle.math.specs.declared.quaternion.Quaternion.{Quaternion}
 use Rattle.math.specs.Quaternions.{finiteQuaternion}
 use Rattle.settings.specs.declared.Settings.{Settings}
@@ -26,8 +27,12 @@ use Rattle.ahrs.specs.Filter.{finiteState, freshOf, restartedOf, skippedStartup
 use Rattle.ahrs.specs.Filter.{softRestartedOf, overrangeOf, halfFeedbackOf, updatedOf}
 use Rattle.ahrs.specs.Read.{gravityOf, linearOf, earthOf, flagsOf, statesOf}
 use Rattle.ahrs.specs.Calls.{updateChecks, orientedOf, stateChecks, changeChecks, periodChecks, quaternionChecks}
+use Rattle.heading.specs.Turn.{magnetometerOf}
+use Rattle.heading.specs.Calls.{withHeading, setChecks, externalOf, externalChecks, unaidedOf, northedOf, unaidedChecks}
 use Rattle.reached.specs.Runs.{Call, update, restart, skip-startup, set-settings, set-sample-period, set-quaternion, outlineOf}
+use Rattle.reached.specs.Runs.{set-heading, update-external-heading, update-no-magnetometer}
 use Rattle.reached.specs.Angles.{squaredState, AlikeRun, none, next, FromTheLimitOn, ReadsAlike}
+use Rattle.reached.proofs.Headed.{northed}
 use Rattle.reached.proofs.Counting.{after-overrange}
 use Rattle.reached.proofs.Accepting.{start-accepted, change-accepted}
 
@@ -84,12 +89,27 @@ updated-fit : (s : Ahrs) → Fit s → (g a m : Vector) → Fit (updatedOf s g a
 unfolding updatedOf
 updated-fit s h g a m = after-overrange Fit s g h h
 
+-- a heading reads the orientation alone
+north-alike : (n : Ahrs) → northedOf (squaredState n) ≡ squaredState (northedOf n)
+unfolding withQuaternion
+north-alike n = go (n .startup)
+  where
+    go : (b : Bool) → cond b (withHeading (squaredState n) float.zero) (squaredState n) ≡ squaredState (cond b (withHeading n float.zero) n)
+    go true = refl
+    go false = refl
+
+unaided-alike : (s : Ahrs) (g a : Vector) → northedOf (unaidedOf (squaredState s) g a) ≡ squaredState (northedOf (unaidedOf s g a))
+unaided-alike s g a = ap northedOf (updated-alike s g a zeroVector) ∙ north-alike (unaidedOf s g a)
+
 -- ---- every call
 
 -- accepted or not
 alike : (n : ℕ) (s new own : Ahrs) → squaredState new ≡ squaredState own → squaredState (accepted n new (squaredState s)) ≡ squaredState (accepted n own s)
 alike zero s new own h = h
 alike (suc n) s new own h = refl
+
+abbrev oriented : ℕ → Ahrs → Told
+oriented n k = answer (accepted n (orientedOf (k .quaternion)) (Refused n))
 
 module _ (s : Ahrs) (h : Fit s) where
   update-number : (g a m : Vector) → refusalOf (updateChecks (squaredState s) g a m) ≡ refusalOf (updateChecks s g a m)
@@ -107,14 +127,29 @@ module _ (s : Ahrs) (h : Fit s) where
   quaternion-number : (q : Quaternion) → refusalOf (quaternionChecks (squaredState s) q) ≡ refusalOf (quaternionChecks s q)
   quaternion-number q = rw (finite-alike s h)
 
+  heading-number : (x : Float) → refusalOf (setChecks (squaredState s) x) ≡ refusalOf (setChecks s x)
+  heading-number x = rw (finite-alike s h)
+
+  external-number : (g a : Vector) (x : Float) → refusalOf (externalChecks (squaredState s) g a x) ≡ refusalOf (externalChecks s g a x)
+  external-number g a x =
+      let m = magnetometerOf (s .quaternion) x in
+      rw (updated-alike s g a m, finite-alike s h, finite-alike (updatedOf s g a m) (updated-fit s h g a m))
+
+  unaided-number : (g a : Vector) → refusalOf (unaidedChecks (squaredState s) g a) ≡ refusalOf (unaidedChecks s g a)
+  unaided-number g a =
+      rw (updated-alike s g a zeroVector, finite-alike s h, finite-alike (unaidedOf s g a) (updated-fit s h g a zeroVector))
+
   told-alike : (c : Call) → stepOf outlineOf (squaredState s) c .told ≡ stepOf outlineOf s c .told
-  told-alike (update g a m) =
-      ap₂ (λ (n : ℕ) (k : Ahrs). answer (accepted n (orientedOf (k .quaternion)) (Refused n))) (update-number g a m) (updated-alike s g a m)
+  told-alike (update g a m) = ap₂ oriented (update-number g a m) (updated-alike s g a m)
   told-alike restart = ap number state-number
   told-alike skip-startup = ap number state-number
   told-alike (set-settings t) = ap number (change-number t)
   told-alike (set-sample-period p) = ap number (period-number p)
   told-alike (set-quaternion q) = ap number (quaternion-number q)
+  told-alike (set-heading x) = ap number (heading-number x)
+  told-alike (update-external-heading g a x) =
+      ap₂ oriented (external-number g a x) (updated-alike s g a (magnetometerOf (s .quaternion) x))
+  told-alike (update-no-magnetometer g a) = ap₂ oriented (unaided-number g a) (unaided-alike s g a)
 
   -- by the number that both give
   left-alike
@@ -131,6 +166,10 @@ module _ (s : Ahrs) (h : Fit s) where
       left-alike _ _ (withSettings (squaredState s) t (derivedOf t)) (withSettings s t (derivedOf t)) (change-number t) refl
   state-alike (set-sample-period p) = left-alike _ _ (withSamplePeriod (squaredState s) p) (withSamplePeriod s p) (period-number p) refl
   state-alike (set-quaternion q) = left-alike _ _ (withQuaternion (squaredState s) q) (withQuaternion s q) (quaternion-number q) refl
+  state-alike (set-heading x) = left-alike _ _ (withHeading (squaredState s) x) (withHeading s x) (heading-number x) refl
+  state-alike (update-external-heading g a x) =
+      left-alike _ _ _ _ (external-number g a x) (ap squaredState (updated-alike s g a (magnetometerOf (s .quaternion) x)))
+  state-alike (update-no-magnetometer g a) = left-alike _ _ _ _ (unaided-number g a) (ap squaredState (unaided-alike s g a))
 
   stays-fit : (c : Call) → Fit (stepOf outlineOf s c .state)
   unfolding freshOf skippedStartup withSettings withSamplePeriod withQuaternion
@@ -142,6 +181,12 @@ module _ (s : Ahrs) (h : Fit s) where
       (λ e. let a = change-accepted s t e in accepted-fit t (a .finite) (a .sound))
   stays-fit (set-sample-period p) = settled Fit (refusalOf (periodChecks s p)) (withSamplePeriod s p) s h (λ e. h)
   stays-fit (set-quaternion q) = settled Fit (refusalOf (quaternionChecks s q)) (withQuaternion s q) s h (λ e. h)
+  stays-fit (set-heading x) = settled Fit (refusalOf (setChecks s x)) (withHeading s x) s h (λ e. h)
+  stays-fit (update-external-heading g a x) =
+      settled Fit (refusalOf (externalChecks s g a x)) (externalOf s g a x) s h (λ e. updated-fit s h g a (magnetometerOf (s .quaternion) x))
+  stays-fit (update-no-magnetometer g a) =
+      settled Fit (refusalOf (unaidedChecks s g a)) (northedOf (unaidedOf s g a)) s h
+      (λ e. northed Fit (unaidedOf s g a) (updated-fit s h g a zeroVector) (λ t. updated-fit s h g a zeroVector))
 
 -- ---- every run
 

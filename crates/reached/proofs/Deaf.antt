@@ -28,10 +28,14 @@ use Rattle.ahrs.specs.Filter as filter
 use Rattle.ahrs.specs.Filter.{freshOf, restartedOf, skippedStartup, withSettings, withThreshold, withSamplePeriod, withQuaternion}
 use Rattle.ahrs.specs.Filter.{softRestartedOf, overrangeOf, halfFeedbackOf}
 use Rattle.ahrs.specs.Calls.{updateChecks, stateChecks, changeChecks, periodChecks, quaternionChecks}
+use Rattle.heading.specs.Turn.{magnetometerOf}
+use Rattle.heading.specs.Calls.{withHeading, setChecks, externalOf, externalChecks, unaidedOf, northedOf, unaidedChecks}
 use Rattle.reached.specs.Runs.{Call, update, restart, skip-startup, set-settings, set-sample-period, set-quaternion, outlineOf}
+use Rattle.reached.specs.Runs.{set-heading, update-external-heading, update-no-magnetometer}
 use Rattle.reached.specs.Deaf.{Sensor, accelerometer, magnetometer, ofSensor, markOf, countOf, feedbackBy, MarkTells}
 use Rattle.reached.specs.Deaf.{Effect, clears, updates, leaves, effectOf, effectsOf, reachedOf, sinceOf, inARow, usedOrNone}
 use Rattle.reached.specs.Deaf.{atMost, reachedCount, reachedSince, HowLong, countAfter, EachCall, Marked, StaysMarked}
+use Rattle.reached.proofs.Headed.{northed, as-read}
 
 -- ---- one sensor
 
@@ -121,6 +125,12 @@ each-call k s skip-startup = untouched (countOf k) (refusalOf (stateChecks s)) (
 each-call k s (set-settings t) = untouched (countOf k) (refusalOf (changeChecks s t)) (withSettings s t (derivedOf t)) s refl
 each-call k s (set-sample-period p) = untouched (countOf k) (refusalOf (periodChecks s p)) (withSamplePeriod s p) s refl
 each-call k s (set-quaternion q) = untouched (countOf k) (refusalOf (quaternionChecks s q)) (withQuaternion s q) s refl
+each-call k s (set-heading h) = untouched (countOf k) (refusalOf (setChecks s h)) (withHeading s h) s refl
+each-call k s (update-external-heading g a h) =
+    accepted-count k (refusalOf (externalChecks s g a h)) _ (externalOf s g a h) s (updated-count k s g a (magnetometerOf (s .quaternion) h))
+each-call k s (update-no-magnetometer g a) =
+    accepted-count k (refusalOf (unaidedChecks s g a)) _ (northedOf (unaidedOf s g a)) s
+    (as-read (countOf k) (λ n q. refl) (unaidedOf s g a) ∙ updated-count k s g a zeroVector)
 
 -- ---- a run
 
@@ -199,17 +209,23 @@ unfolding freshOf resetOf
 fresh-marked s accelerometer = refl
 fresh-marked s magnetometer = refl
 
+updated-marked : (s : Ahrs) (g a m : Vector) → Marked (filter.updatedOf s g a m)
+updated-marked s g a m k = agree (markOf k (filter.updatedOf s g a m)) _ ∙ ap (λ (n : ℕ). not (eqb n 0)) (sym (now-count k s g a m))
+
 after-call : (s : Ahrs) → Marked s → (c : Call) → Marked (stepOf outlineOf s c .state)
 unfolding skippedStartup withSettings withThreshold withSamplePeriod withQuaternion
-after-call s h (update g a m) =
-    let next = filter.updatedOf s g a m in
-    settled Marked (refusalOf (updateChecks s g a m)) next s h
-    (λ e k. agree (markOf k next) _ ∙ ap (λ (n : ℕ). not (eqb n 0)) (sym (now-count k s g a m)))
+after-call s h (update g a m) = settled Marked (refusalOf (updateChecks s g a m)) (filter.updatedOf s g a m) s h (λ e. updated-marked s g a m)
+after-call s h (update-external-heading g a x) =
+    settled Marked (refusalOf (externalChecks s g a x)) (externalOf s g a x) s h (λ e. updated-marked s g a (magnetometerOf (s .quaternion) x))
+after-call s h (update-no-magnetometer g a) =
+    settled Marked (refusalOf (unaidedChecks s g a)) (northedOf (unaidedOf s g a)) s h
+    (λ e. northed Marked (unaidedOf s g a) (updated-marked s g a zeroVector) (λ t. updated-marked s g a zeroVector))
 after-call s h restart = settled Marked (refusalOf (stateChecks s)) (restartedOf s) s h (λ e. fresh-marked s)
 after-call s h skip-startup = settled Marked (refusalOf (stateChecks s)) (skippedStartup s) s h (λ e. h)
 after-call s h (set-settings t) = settled Marked (refusalOf (changeChecks s t)) (withSettings s t (derivedOf t)) s h (λ e. h)
 after-call s h (set-sample-period p) = settled Marked (refusalOf (periodChecks s p)) (withSamplePeriod s p) s h (λ e. h)
 after-call s h (set-quaternion q) = settled Marked (refusalOf (quaternionChecks s q)) (withQuaternion s q) s h (λ e. h)
+after-call s h (set-heading x) = settled Marked (refusalOf (setChecks s x)) (withHeading s x) s h (λ e. h)
 
 pub stays-marked : StaysMarked
 unfolding freshOf resetOf

@@ -21,7 +21,7 @@ with-first : (a b c d e f g : Bool) → b ≡ true → (a && c && d && e && f &&
 with-first true b c d e f g p q = rw p q
 with-first false b c d e f g p q = absurd (false≢true q)
 
-zero-finite : finiteVector zeroVector ≡ true
+pub zero-finite : finiteVector zeroVector ≡ true
 unfolding finiteVector ofBits
 zero-finite = refl
 

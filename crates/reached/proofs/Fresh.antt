@@ -8,7 +8,7 @@ use Rattle.answer.specs.Refusals.{refusalOf}
 use Rattle.answer.specs.Runs.{Step, stepOf, runOf, Throughout}
 use Rattle.answer.proofs.Running.{settled, kept}
 use Rattle.vector.specs.declared.Vector.{Vector}
-use Rattle.vector.specs.Vectors.{isZeroOf}
+use Rattle.vector.specs.Vectors.{zeroVector, isZeroOf}
 use Rattle.rejection.specs.declared.Counts.{Counts}
 use Rattle.rejection.specs.Counts as counts
 use Rattle.rejection.specs.Inside.{NotBelow}
@@ -26,11 +26,15 @@ use Rattle.ahrs.specs.declared.Ahrs.{Ahrs}
 use Rattle.ahrs.specs.Filter.{freshOf, restartedOf, skippedStartup, withThreshold, withSettings, withSamplePeriod, withQuaternion}
 use Rattle.ahrs.specs.Filter.{softRestartedOf, overrangeOf, updatedOf}
 use Rattle.ahrs.specs.Calls.{updateChecks, stateChecks, changeChecks, periodChecks, quaternionChecks}
+use Rattle.heading.specs.Turn.{magnetometerOf}
+use Rattle.heading.specs.Calls.{withHeading, setChecks, externalOf, externalChecks, unaidedOf, northedOf, unaidedChecks}
 use Rattle.reached.specs.Runs.{Call, update, restart, skip-startup, set-settings, set-sample-period, set-quaternion, outlineOf}
+use Rattle.reached.specs.Runs.{set-heading, update-external-heading, update-no-magnetometer}
 use Rattle.reached.specs.Reached.{Sound}
 use Rattle.reached.specs.Deaf.{Sensor, accelerometer, magnetometer}
 use Rattle.reached.specs.Hearing.{rejectionOf}
 use Rattle.reached.specs.Recovery.{FreshInStartup, StaysFresh}
+use Rattle.reached.proofs.Headed.{northed}
 use Rattle.reached.proofs.Counting.{after-overrange}
 use Rattle.reached.proofs.Sound.{now-timeout}
 use Rattle.reached.proofs.Running as sound
@@ -101,6 +105,12 @@ after-call s h f (set-settings t) =
     settled FreshInStartup (refusalOf (changeChecks s t)) (withSettings s t (derivedOf t)) s f (λ e. settings-fresh s t (derivedOf t) f)
 after-call s h f (set-sample-period p) = settled FreshInStartup (refusalOf (periodChecks s p)) (withSamplePeriod s p) s f (λ e. f)
 after-call s h f (set-quaternion q) = settled FreshInStartup (refusalOf (quaternionChecks s q)) (withQuaternion s q) s f (λ e. f)
+after-call s h f (set-heading x) = settled FreshInStartup (refusalOf (setChecks s x)) (withHeading s x) s f (λ e. f)
+after-call s h f (update-external-heading g a x) =
+    settled FreshInStartup (refusalOf (externalChecks s g a x)) (externalOf s g a x) s f (λ e. updated-fresh s h f g a (magnetometerOf (s .quaternion) x))
+after-call s h f (update-no-magnetometer g a) =
+    settled FreshInStartup (refusalOf (unaidedChecks s g a)) (northedOf (unaidedOf s g a)) s f
+    (λ e. northed FreshInStartup (unaidedOf s g a) (updated-fresh s h f g a zeroVector) (λ t. updated-fresh s h f g a zeroVector))
 
 -- ---- a run
 

@@ -25,10 +25,14 @@ use Rattle.ahrs.specs.declared.Ahrs.{Ahrs}
 use Rattle.ahrs.specs.Filter.{restartedOf, skippedStartup, withSettings, withSamplePeriod, withQuaternion}
 use Rattle.ahrs.specs.Filter.{softRestartedOf, overrangeOf, halfFeedbackOf, startupOf, updatedOf}
 use Rattle.ahrs.specs.Calls.{updateChecks, stateChecks, changeChecks, periodChecks, quaternionChecks}
+use Rattle.heading.specs.Turn.{magnetometerOf}
+use Rattle.heading.specs.Calls.{withHeading, setChecks, externalOf, externalChecks, unaidedOf, northedOf, unaidedChecks}
 use Rattle.reached.specs.Runs.{Call, update, restart, skip-startup, set-settings, set-sample-period, set-quaternion, outlineOf}
+use Rattle.reached.specs.Runs.{set-heading, update-external-heading, update-no-magnetometer}
 use Rattle.reached.specs.Deaf.{Sensor, accelerometer, magnetometer, ofSensor, feedbackBy, reachedOf}
-use Rattle.reached.specs.Hearing.{residualAt, kindAt, Heard, hears, nothing, disturbed, heardIn, withHeard, heardOf}
+use Rattle.reached.specs.Hearing.{residualAt, kindAt, Heard, hears, nothing, disturbed, heardBy, heardIn, withHeard, heardOf}
 use Rattle.reached.specs.Hearing.{rejectionOf, Keeps, Follows, Adds}
+use Rattle.reached.proofs.Headed.{northed, as-read}
 use Rattle.reached.proofs.Deaf.{kept-tells}
 
 -- ---- one sensor, out of startup
@@ -109,18 +113,17 @@ Left k timeout c nothing s = Keeps k timeout c s
 Left k timeout c disturbed s = Unit {0}
 
 module _ (k : Sensor) (timeout : ℤ) (c : Counts) (s : Ahrs) (h : Keeps k timeout c s) where
-  left-by-update : (g a m : Vector) (n : ℕ)
-      → Left k timeout c
-      (accepted n (cond (anyOf (overOf (s .config) g) || updatedOf s g a m .startup) disturbed (hears (kindAt k s a m))) nothing)
-      (accepted n (updatedOf s g a m) s)
-  left-by-update g a m (suc n) = h
-  left-by-update g a m zero = go (anyOf (overOf (s .config) g)) (updatedOf s g a m .startup) refl refl
+  -- new is what an update of whatever kind leaves: out of startup, T and the counts of the update itself
+  left-by-update : (g a m : Vector) (n : ℕ) (new : Ahrs) → ((d : Counts) → Keeps k timeout d (updatedOf s g a m) → Keeps k timeout d new)
+      → Left k timeout c (heardBy k s n g a m) (accepted n new s)
+  left-by-update g a m (suc n) new on = h
+  left-by-update g a m zero new on = go (anyOf (overOf (s .config) g)) (updatedOf s g a m .startup) refl refl
     where
       go : (p q : Bool) → anyOf (overOf (s .config) g) ≡ p → updatedOf s g a m .startup ≡ q
-          → Left k timeout c (cond (p || q) disturbed (hears (kindAt k s a m))) (updatedOf s g a m)
+          → Left k timeout c (cond (p || q) disturbed (hears (kindAt k s a m))) new
       go true q e f = tt
       go false true e f = tt
-      go false false e f = updated-keeps s g a m e f k timeout c h
+      go false false e f = on _ (updated-keeps s g a m e f k timeout c h)
 
   disturbs : (n : ℕ) (new : Ahrs) → Left k timeout c (accepted n disturbed nothing) (accepted n new s)
   disturbs zero new = tt
@@ -131,7 +134,12 @@ module _ (k : Sensor) (timeout : ℤ) (c : Counts) (s : Ahrs) (h : Keeps k timeo
 
   pub left-by : (call : Call) → Left k timeout c (heardIn k s call) (stepOf outlineOf s call .state)
   unfolding skippedStartup withSamplePeriod withQuaternion
-  left-by (update g a m) = left-by-update g a m (refusalOf (updateChecks s g a m))
+  left-by (update g a m) = left-by-update g a m (refusalOf (updateChecks s g a m)) (updatedOf s g a m) (λ d l. l)
+  left-by (update-external-heading g a x) =
+      left-by-update g a (magnetometerOf (s .quaternion) x) (refusalOf (externalChecks s g a x)) (externalOf s g a x) (λ d l. l)
+  left-by (update-no-magnetometer g a) =
+      left-by-update g a zeroVector (refusalOf (unaidedChecks s g a)) (northedOf (unaidedOf s g a))
+      (λ d l. northed (Keeps k timeout d) (unaidedOf s g a) l (λ t. record { timeout-is = l .timeout-is; counts-are = l .counts-are }))
   left-by restart = disturbs (refusalOf (stateChecks s)) (restartedOf s)
   left-by (set-settings t) = disturbs (refusalOf (changeChecks s t)) (withSettings s t (derivedOf t))
   left-by skip-startup = leaves (refusalOf (stateChecks s)) (skippedStartup s) (record { timeout-is = h .timeout-is; counts-are = h .counts-are })
@@ -139,6 +147,7 @@ module _ (k : Sensor) (timeout : ℤ) (c : Counts) (s : Ahrs) (h : Keeps k timeo
       leaves (refusalOf (periodChecks s p)) (withSamplePeriod s p) (record { timeout-is = h .timeout-is; counts-are = h .counts-are })
   left-by (set-quaternion q) =
       leaves (refusalOf (quaternionChecks s q)) (withQuaternion s q) (record { timeout-is = h .timeout-is; counts-are = h .counts-are })
+  left-by (set-heading x) = leaves (refusalOf (setChecks s x)) (withHeading s x) (record { timeout-is = h .timeout-is; counts-are = h .counts-are })
 
 -- ---- a run
 
@@ -169,8 +178,9 @@ follows k timeout c s h (call ∷ cs) xs e =
 
 -- ---- what a reading adds
 
--- an update that is heard is in range and out of startup
-record Brought (k : Sensor) (s : Ahrs) (g a m : Vector) (x : Kind) : Type 0 where
+-- an update that is heard is accepted, in range and out of startup
+record Brought (k : Sensor) (s : Ahrs) (n : ℕ) (g a m : Vector) (x : Kind) : Type 0 where
+  taken : n ≡ 0
   in-range : anyOf (overOf (s .config) g) ≡ false
   out-of-startup : updatedOf s g a m .startup ≡ false
   kind : kindAt k s a m ≡ x
@@ -186,19 +196,45 @@ isReading (hears x) = true
 isReading nothing = false
 isReading disturbed = false
 
-brought : (k : Sensor) (s : Ahrs) (g a m : Vector) (x : Kind) → heardIn k s (update g a m) ≡ hears x → Brought k s g a m x
-brought k s g a m x e = go (refusalOf (updateChecks s g a m)) (anyOf (overOf (s .config) g)) (updatedOf s g a m .startup) refl refl e
+unheard : {x : Kind} {y : Heard} → y ≡ hears x → isReading y ≡ false → ⊥
+unheard e f = false≢true (sym f ∙ ap isReading e)
+
+brought : (k : Sensor) (s : Ahrs) (n : ℕ) (g a m : Vector) (x : Kind) → heardBy k s n g a m ≡ hears x → Brought k s n g a m x
+brought k s n g a m x e = go n (anyOf (overOf (s .config) g)) (updatedOf s g a m .startup) refl refl refl e
   where
     go
-        : (n : ℕ) (p q : Bool) → anyOf (overOf (s .config) g) ≡ p → updatedOf s g a m .startup ≡ q
-        → accepted n (cond (p || q) disturbed (hears (kindAt k s a m))) nothing ≡ hears x → Brought k s g a m x
-    go zero false false f h e = record { in-range = f; out-of-startup = h; kind = ap (kindOf x) e }
-    go zero true q f h e = absurd (false≢true (ap isReading e))
-    go zero false true f h e = absurd (false≢true (ap isReading e))
-    go (suc n) p q f h e = absurd (false≢true (ap isReading e))
+        : (i : ℕ) (p q : Bool) → n ≡ i → anyOf (overOf (s .config) g) ≡ p → updatedOf s g a m .startup ≡ q
+        → accepted i (cond (p || q) disturbed (hears (kindAt k s a m))) nothing ≡ hears x → Brought k s n g a m x
+    go zero false false z f h e = record { taken = z; in-range = f; out-of-startup = h; kind = ap (kindOf x) e }
+    go zero true q z f h e = absurd (unheard e refl)
+    go zero false true z f h e = absurd (unheard e refl)
+    go (suc i) p q z f h e = absurd (unheard e refl)
+
+module _ (k : Sensor) (timeout : ℤ) (c : Counts) (s : Ahrs) (h : Keeps k timeout c s) where
+  -- new is what an update of whatever kind leaves, and n its number
+  added : (g a m : Vector) (n : ℕ) (new : Ahrs) (x : Kind) → rejectionOf k new ≡ rejectionOf k (updatedOf s g a m) → heardBy k s n g a m ≡ hears x
+      → feedbackBy (rejectionOf k (accepted n new s)) ≡ cond (byKind timeout c x .used) (residualAt k s a m) zeroVector
+  added g a m n new x same e =
+      let b = brought k s n g a m x e in
+      ap (λ (i : ℕ). feedbackBy (rejectionOf k (accepted i new s))) (b .taken) ∙ ap feedbackBy same
+      ∙ updated-by s g a m (b .in-range) (b .out-of-startup) k timeout c h .added
+      ∙ ap (λ (x : Kind). cond (byKind timeout c x .used) (residualAt k s a m) zeroVector) (b .kind)
+
+  none-heard : (n : ℕ) {x : Kind} → accepted n disturbed nothing ≡ hears x → ⊥
+  none-heard zero e = unheard e refl
+  none-heard (suc n) e = unheard e refl
 
 pub adds : Adds
-adds k timeout c s h g a m x e =
-    let b = brought k s g a m x e in
-    updated-by s g a m (b .in-range) (b .out-of-startup) k timeout c h .added
-    ∙ ap (λ (x : Kind). cond (byKind timeout c x .used) (residualAt k s a m) zeroVector) (b .kind)
+unfolding withQuaternion
+adds k timeout c s h (update g a m) x e = added k timeout c s h g a m (refusalOf (updateChecks s g a m)) (updatedOf s g a m) x refl e
+adds k timeout c s h (update-external-heading g a y) x e =
+    added k timeout c s h g a (magnetometerOf (s .quaternion) y) (refusalOf (externalChecks s g a y)) (externalOf s g a y) x refl e
+adds k timeout c s h (update-no-magnetometer g a) x e =
+    added k timeout c s h g a zeroVector (refusalOf (unaidedChecks s g a)) (northedOf (unaidedOf s g a)) x
+    (as-read (rejectionOf k) (λ n q. refl) (unaidedOf s g a)) e
+adds k timeout c s h restart x e = absurd (none-heard k timeout c s h (refusalOf (stateChecks s)) e)
+adds k timeout c s h (set-settings t) x e = absurd (none-heard k timeout c s h (refusalOf (changeChecks s t)) e)
+adds k timeout c s h skip-startup x e = absurd (unheard e refl)
+adds k timeout c s h (set-sample-period p) x e = absurd (unheard e refl)
+adds k timeout c s h (set-quaternion q) x e = absurd (unheard e refl)
+adds k timeout c s h (set-heading y) x e = absurd (unheard e refl)

@@ -2,12 +2,14 @@
 use Prim.Native.Nat.{ℕ}
 use mathlib.Core.Path.{_≡_, refl, ap, sym, subst, _∙_}
 use mathlib.Core.Bool.{Bool, true, false, cond, true≢false, false≢true}
+use mathlib.Core.Option.{Option·some-injective, Option·none-ne-some}
 use lib.Ieee.{Float, lt}
 use Rattle.number.specs.Float32.{_⊖_}
 use Rattle.answer.specs.Refusals.{refusalOf, accepted}
 use Rattle.answer.specs.Runs.{stepOf}
 use Rattle.answer.proofs.Running.{settled, read-settled, untouched, kept}
 use Rattle.vector.specs.declared.Vector.{Vector}
+use Rattle.vector.specs.Vectors.{zeroVector}
 use Rattle.settings.specs.declared.config.Config.{Config}
 use Rattle.settings.specs.declared.axes.Axes.{Axes}
 use Rattle.settings.specs.Config.{initialGain, derivedOf}
@@ -18,8 +20,12 @@ use Rattle.ahrs.specs.declared.Ahrs.{Ahrs}
 use Rattle.ahrs.specs.Filter.{freshOf, restartedOf, skippedStartup, withSettings, withSamplePeriod, withQuaternion}
 use Rattle.ahrs.specs.Filter.{softRestartedOf, overrangeOf, updatedOf}
 use Rattle.ahrs.specs.Calls.{updateChecks, stateChecks, changeChecks, periodChecks, quaternionChecks}
+use Rattle.heading.specs.Turn.{magnetometerOf}
+use Rattle.heading.specs.Calls.{withHeading, setChecks, externalOf, externalChecks, unaidedOf, northedOf, unaidedChecks}
 use Rattle.reached.specs.Runs.{Call, update, restart, skip-startup, set-settings, set-sample-period, set-quaternion, outlineOf}
+use Rattle.reached.specs.Runs.{set-heading, update-external-heading, update-no-magnetometer, checksOf, Readings}
 use Rattle.reached.specs.Knocks.{OnlyInStartup, StaysInStartup, axesUpdated, Latest, ReadingsOwn}
+use Rattle.reached.proofs.Headed.{northed, as-read}
 use Rattle.reached.proofs.Counting.{after-overrange}
 
 -- ---- an update
@@ -77,6 +83,12 @@ after-call s h skip-startup = settled OnlyInStartup (refusalOf (stateChecks s)) 
 after-call s h (set-settings t) = settled OnlyInStartup (refusalOf (changeChecks s t)) (withSettings s t (derivedOf t)) s h (λ e. h)
 after-call s h (set-sample-period p) = settled OnlyInStartup (refusalOf (periodChecks s p)) (withSamplePeriod s p) s h (λ e. h)
 after-call s h (set-quaternion q) = settled OnlyInStartup (refusalOf (quaternionChecks s q)) (withQuaternion s q) s h (λ e. h)
+after-call s h (set-heading x) = settled OnlyInStartup (refusalOf (setChecks s x)) (withHeading s x) s h (λ e. h)
+after-call s h (update-external-heading g a x) =
+    settled OnlyInStartup (refusalOf (externalChecks s g a x)) (externalOf s g a x) s h (λ e. updated-in-startup s h g a (magnetometerOf (s .quaternion) x))
+after-call s h (update-no-magnetometer g a) =
+    settled OnlyInStartup (refusalOf (unaidedChecks s g a)) (northedOf (unaidedOf s g a)) s h
+    (λ e. northed OnlyInStartup (unaidedOf s g a) (updated-in-startup s h g a zeroVector) (λ t. updated-in-startup s h g a zeroVector))
 
 pub stays-in-startup : StaysInStartup
 unfolding freshOf
@@ -96,6 +108,12 @@ latest s h skip-startup = read-settled shown (refusalOf (stateChecks s)) (skippe
 latest s h (set-settings t) = untouched shown (refusalOf (changeChecks s t)) (withSettings s t (derivedOf t)) s refl
 latest s h (set-sample-period p) = untouched shown (refusalOf (periodChecks s p)) (withSamplePeriod s p) s refl
 latest s h (set-quaternion q) = untouched shown (refusalOf (quaternionChecks s q)) (withQuaternion s q) s refl
+latest s h (set-heading x) = untouched shown (refusalOf (setChecks s x)) (withHeading s x) s refl
+latest s h (update-external-heading g a x) =
+    read-settled shown (refusalOf (externalChecks s g a x)) (externalOf s g a x) s _ (λ e. updated-axes s h g a (magnetometerOf (s .quaternion) x))
+latest s h (update-no-magnetometer g a) =
+    read-settled shown (refusalOf (unaidedChecks s g a)) (northedOf (unaidedOf s g a)) s _
+    (λ e. as-read shown (λ k q. refl) (unaidedOf s g a) ∙ updated-axes s h g a zeroVector)
 
 -- ---- a reading that went over
 
@@ -119,8 +137,33 @@ fired s g a m f e = go (anyOf (overOf (s .config) g)) f e
         left-by-startup (s .config) true initialGain over (λ z. absurd (true≢false z)) ∙ ap (λ (on : Bool). cond on over none) k
     go false p k = absurd (false≢true p)
 
+-- new is what an accepted update of whatever kind leaves, and n its number
+own
+    : (s : Ahrs) (g a m : Vector) (n : ℕ) (new : Ahrs) → new .startup ≡ updatedOf s g a m .startup → shown new ≡ shown (updatedOf s g a m)
+    → n ≡ 0 → anyOf (overOf (s .config) g) ≡ true → let next = accepted n new s in next .startup ≡ true → shown next ≡ overOf (s .config) g
+own s g a m n new p q z f =
+    subst (λ (n : ℕ). let next = accepted n new s in next .startup ≡ true → shown next ≡ overOf (s .config) g) (sym z)
+    (λ e. q ∙ fired s g a m f (sym p ∙ e))
+
+-- the readings that a call has
+abbrev OwnOf : Ahrs → Call → Readings → Type 0
+OwnOf s c r =
+    refusalOf (checksOf s c) ≡ 0 → anyOf (overOf (s .config) (r .gyroscope)) ≡ true
+    → let next = stepOf outlineOf s c .state in next .startup ≡ true → next .«overrange_recovery» ≡ overOf (s .config) (r .gyroscope)
+
 pub readings-own : ReadingsOwn
-readings-own s g a m z f =
-    subst
-    (λ (n : ℕ). let next = accepted n (updatedOf s g a m) s in next .startup ≡ true → next .«overrange_recovery» ≡ overOf (s .config) g)
-    (sym z) (fired s g a m f)
+unfolding withQuaternion
+readings-own s (update g a m) r e = subst (OwnOf s (update g a m)) (Option·some-injective _ r e) (own s g a m _ (updatedOf s g a m) refl refl)
+readings-own s (update-external-heading g a x) r e =
+    subst (OwnOf s (update-external-heading g a x)) (Option·some-injective _ r e)
+    (own s g a (magnetometerOf (s .quaternion) x) _ (externalOf s g a x) refl refl)
+readings-own s (update-no-magnetometer g a) r e =
+    subst (OwnOf s (update-no-magnetometer g a)) (Option·some-injective _ r e)
+    (own s g a zeroVector _ (northedOf (unaidedOf s g a)) (as-read (λ (k : Ahrs). k .startup) (λ k q. refl) (unaidedOf s g a))
+    (as-read shown (λ k q. refl) (unaidedOf s g a)))
+readings-own s restart r e = absurd (Option·none-ne-some r e)
+readings-own s skip-startup r e = absurd (Option·none-ne-some r e)
+readings-own s (set-settings t) r e = absurd (Option·none-ne-some r e)
+readings-own s (set-sample-period p) r e = absurd (Option·none-ne-some r e)
+readings-own s (set-quaternion q) r e = absurd (Option·none-ne-some r e)
+readings-own s (set-heading x) r e = absurd (Option·none-ne-some r e)

@@ -6,6 +6,7 @@ use Rattle.answer.specs.Refusals.{refusalOf}
 use Rattle.answer.specs.Runs.{stepOf}
 use Rattle.answer.proofs.Running.{settled}
 use Rattle.vector.specs.declared.Vector.{Vector}
+use Rattle.vector.specs.Vectors.{zeroVector}
 use Rattle.rejection.specs.Inside.{NotBelow}
 use Rattle.rejection.proofs.Order.{not-below-through}
 use Rattle.rejection.proofs.Inside.{stays-inside}
@@ -17,10 +18,14 @@ use Rattle.settings.specs.Config.{derivedOf}
 use Rattle.step.specs.Sensor.{countsOf, resetOf, skippedOf, rejectedOf}
 use Rattle.ahrs.specs.Filter.{freshOf, restartedOf, skippedStartup, withThreshold, withSettings, withSamplePeriod, withQuaternion, overrangeOf, updatedOf}
 use Rattle.ahrs.specs.Calls.{updateChecks, stateChecks, changeChecks, periodChecks, quaternionChecks}
+use Rattle.heading.specs.Turn.{magnetometerOf}
+use Rattle.heading.specs.Calls.{withHeading, setChecks, externalOf, externalChecks, unaidedOf, northedOf, unaidedChecks}
 use Rattle.reached.specs.Runs.{Call, update, restart, skip-startup, set-settings, set-sample-period, set-quaternion, outlineOf}
+use Rattle.reached.specs.Runs.{set-heading, update-external-heading, update-no-magnetometer}
 use Rattle.reached.specs.Reached.{Sound, Under, Raises, OnlyLowered}
 use Rattle.reached.proofs.Counting.{after-overrange, acceleration-after, magnetic-after}
 use Rattle.reached.proofs.Accepting.{start-accepted}
+use Rattle.reached.proofs.Headed.{northed}
 use Rattle.reached.proofs.Sound.{now-timeout}
 
 -- one sensor's trigger is not above T
@@ -85,6 +90,15 @@ after-call s h u (set-sample-period p) r =
     settled Under (refusalOf (periodChecks s p)) (withSamplePeriod s p) s u (λ e. record { acceleration = u .acceleration; magnetic = u .magnetic })
 after-call s h u (set-quaternion q) r =
     settled Under (refusalOf (quaternionChecks s q)) (withQuaternion s q) s u (λ e. record { acceleration = u .acceleration; magnetic = u .magnetic })
+after-call s h u (set-heading x) r =
+    settled Under (refusalOf (setChecks s x)) (withHeading s x) s u (λ e. record { acceleration = u .acceleration; magnetic = u .magnetic })
+after-call s h u (update-external-heading g a x) r =
+    settled Under (refusalOf (externalChecks s g a x)) (externalOf s g a x) s u (λ e. updated-under s h u g a (magnetometerOf (s .quaternion) x))
+after-call s h u (update-no-magnetometer g a) r =
+    settled Under (refusalOf (unaidedChecks s g a)) (northedOf (unaidedOf s g a)) s u
+    (λ e.
+    let first = updated-under s h u g a zeroVector in
+    northed Under (unaidedOf s g a) first (λ t. record { acceleration = first .acceleration; magnetic = first .magnetic }))
 
 pub only-lowered : OnlyLowered
 only-lowered = record { fresh = λ t e. fresh-under t (derivedOf t) (start-accepted t e .timeout); step = after-call }

@@ -6,7 +6,6 @@ use mathlib.Core.Bool.{Bool, true, false, cond}
 use mathlib.Core.List.{List}
 use lib.IntN.{ℤ, pos}
 use Rattle.answer.specs.Runs.{stepOf}
-use Rattle.vector.specs.declared.Vector.{Vector}
 use Rattle.vector.specs.Vectors.{zeroVector}
 use Rattle.rejection.specs.declared.Counts.{Counts}
 use Rattle.rejection.specs.Counts.{resetOf, recoveryOf}
@@ -18,10 +17,10 @@ use Rattle.rejection.proofs.Recovery as laws
 use Rattle.step.specs.Sensor.{countsOf}
 use Rattle.ahrs.specs.declared.Ahrs.{Ahrs}
 use Rattle.ahrs.specs.Read.{flagsOf}
-use Rattle.reached.specs.Runs.{update, outlineOf}
+use Rattle.reached.specs.Runs.{Call, outlineOf}
 use Rattle.reached.specs.Reached.{Counted, Sound}
 use Rattle.reached.specs.Deaf.{Sensor, accelerometer, magnetometer}
-use Rattle.reached.specs.Hearing.{Heard, hears, heardIn, rejectionOf, residualAt, addedBy, Keeps}
+use Rattle.reached.specs.Hearing.{Heard, hears, heardIn, rejectionOf, residualIn, addedBy, Keeps}
 use Rattle.reached.specs.Recovery.{flagOf, Led, LockedOut, Over, AlwaysBack, Unread, NeverBegins}
 use Rattle.reached.proofs.Hearing.{Left, left-by, follows, adds}
 
@@ -44,10 +43,9 @@ module _ {k : Sensor} {timeout : ℤ} {c : Counts} {s : Ahrs} where
 
 -- what it has after a reading
 heard-keeps
-    : (k : Sensor) (timeout : ℤ) (c : Counts) (s : Ahrs) → Keeps k timeout c s → (g a m : Vector) (x : Kind) → heardIn k s (update g a m) ≡ hears x
-    → Keeps k timeout (byKind timeout c x .counts) (stepOf outlineOf s (update g a m) .state)
-heard-keeps k timeout c s h g a m x e =
-    subst (λ (x : Heard). Left k timeout c x (stepOf outlineOf s (update g a m) .state)) e (left-by k timeout c s h (update g a m))
+    : (k : Sensor) (timeout : ℤ) (c : Counts) (s : Ahrs) → Keeps k timeout c s → (call : Call) (x : Kind) → heardIn k s call ≡ hears x
+    → Keeps k timeout (byKind timeout c x .counts) (stepOf outlineOf s call .state)
+heard-keeps k timeout c s h call x e = subst (λ (x : Heard). Left k timeout c x (stepOf outlineOf s call .state)) e (left-by k timeout c s h call)
 
 -- ---- T from 0 to 2^31 - 2
 
@@ -57,9 +55,9 @@ module _ (k : Sensor) (T : ℕ) (b : T < 2147483647) where
 
   adds-by
       : (n : ℕ) (s : Ahrs) → LockedOut k T n s → (used : Bool) → byKind (pos T) (counts.lockedOut T n) over .used ≡ used
-      → (g a m : Vector) → Over k s g a m → addedBy k s g a m ≡ cond used (residualAt k s a m) zeroVector
-  adds-by n s l used e g a m o =
-      adds k (pos T) (counts.lockedOut T n) s (led l) g a m over o ∙ ap (λ (b : Bool). cond b (residualAt k s a m) zeroVector) e
+      → (call : Call) → Over k s call → addedBy k s call ≡ cond used (residualIn k s call) zeroVector
+  adds-by n s l used e call o =
+      adds k (pos T) (counts.lockedOut T n) s (led l) call over o ∙ ap (λ (b : Bool). cond b (residualIn k s call) zeroVector) e
 
   sound-threshold : (s : Ahrs) → Sound s → s .config .«rejection_timeout» ≡ pos T → ZeroOr (pos T) (countsOf (rejectionOf k s) .threshold)
   sound-threshold s h e = subst (λ (z : ℤ). ZeroOr z (countsOf (rejectionOf k s) .threshold)) e (of-sensor k .threshold)
@@ -78,17 +76,17 @@ module _ (k : Sensor) (T : ℕ) (b : T < 2147483647) where
       }
 
   -- in recovery, whatever the trigger is
-  module _ (s : Ahrs) (h : Sound s) (e : s .config .«rejection_timeout» ≡ pos T) (up : flagOf k s ≡ true) (g a m : Vector) (o : Over k s g a m) where
+  module _ (s : Ahrs) (h : Sound s) (e : s .config .«rejection_timeout» ≡ pos T) (up : flagOf k s ≡ true) (call : Call) (o : Over k s call) where
     has : Keeps k (pos T) (countsOf (rejectionOf k s)) s
     has = record { timeout-is = e; counts-are = refl }
 
-    bad-added : addedBy k s g a m ≡ residualAt k s a m
+    bad-added : addedBy k s call ≡ residualIn k s call
     bad-added =
-        adds k (pos T) _ s has g a m over o
-        ∙ ap (λ (b : Bool). cond b (residualAt k s a m) zeroVector) (law .bad-used _ (sound-threshold s h e) (sym (flag-tells k s) ∙ up))
+        adds k (pos T) _ s has call over o
+        ∙ ap (λ (b : Bool). cond b (residualIn k s call) zeroVector) (law .bad-used _ (sound-threshold s h e) (sym (flag-tells k s) ∙ up))
 
-    bad-stays : 1 ≤ T → flagOf k (stepOf outlineOf s (update g a m) .state) ≡ true
-    bad-stays one = flag-by (heard-keeps k (pos T) _ s has g a m over o) ∙ law .bad one _ (sound-threshold s h e) (sym (flag-tells k s) ∙ up)
+    bad-stays : 1 ≤ T → flagOf k (stepOf outlineOf s call .state) ≡ true
+    bad-stays one = flag-by (heard-keeps k (pos T) _ s has call over o) ∙ law .bad one _ (sound-threshold s h e) (sym (flag-tells k s) ∙ up)
 
 pub always-back : AlwaysBack
 always-back k T b =
@@ -102,12 +100,12 @@ always-back k T b =
       not-sooner = λ n s l p. flag-by (led l) ∙ law .not-sooner n p;
       ends = λ one n s l p. with-counts (led l) (law .ends one n p);
       bad-used = bad-added k T b;
-      bad = λ one s h e up g a m o. bad-stays k T b s h e up g a m o one;
+      bad = λ one s h e up call o. bad-stays k T b s h e up call o one;
     }
 
 pub unread : Unread
-unread k s g a m e =
-    heard-keeps k (s .config .«rejection_timeout») (countsOf (rejectionOf k s)) s (record { timeout-is = refl; counts-are = refl }) g a m all-zero e .counts-are
+unread k s call e =
+    heard-keeps k (s .config .«rejection_timeout») (countsOf (rejectionOf k s)) s (record { timeout-is = refl; counts-are = refl }) call all-zero e .counts-are
 
 -- ---- T = 2^31 - 1
 
@@ -115,7 +113,7 @@ pub never-begins : NeverBegins
 never-begins =
     record {
       down = λ k xs s l. flag-by (led l) ∙ laws.never-begins .down xs;
-      ignored = λ k xs s l g a m o.
-          adds k largest (afterAll largest (resetOf largest) xs) s (led l) g a m over o
-          ∙ ap (λ (b : Bool). cond b (residualAt k s a m) zeroVector) (laws.never-begins .ignored xs);
+      ignored = λ k xs s l call o.
+          adds k largest (afterAll largest (resetOf largest) xs) s (led l) call over o
+          ∙ ap (λ (b : Bool). cond b (residualIn k s call) zeroVector) (laws.never-begins .ignored xs);
     }

@@ -7,14 +7,20 @@ use Rattle.answer.specs.Runs.{stepOf}
 use Rattle.answer.proofs.Answering.{passed}
 use Rattle.answer.proofs.Tests.{both}
 use Rattle.answer.proofs.Running.{settled, kept}
+use Rattle.vector.specs.Vectors.{zeroVector}
 use Rattle.settings.specs.declared.Settings.{Settings}
 use Rattle.settings.specs.Config.{knownConvention, derivedOf, settingsChecks}
 use Rattle.ahrs.specs.declared.Ahrs.{Ahrs}
 use Rattle.ahrs.specs.Filter.{finiteState, freshOf, restartedOf, skippedStartup, withSettings, withSamplePeriod, withQuaternion, updatedOf}
 use Rattle.ahrs.specs.Calls.{updateChecks, stateChecks, changeChecks, periodChecks, quaternionChecks}
+use Rattle.heading.specs.Turn.{magnetometerOf}
+use Rattle.heading.specs.Calls.{withHeading, setChecks, externalOf, externalChecks, unaidedOf, northedOf, unaidedChecks}
 use Rattle.reached.specs.Runs.{Call, update, restart, skip-startup, set-settings, set-sample-period, set-quaternion, outlineOf}
+use Rattle.reached.specs.Runs.{set-heading, update-external-heading, update-no-magnetometer}
 use Rattle.reached.specs.Reached.{Sound, StaysSound}
 use Rattle.reached.proofs.Accepting.{start-accepted, change-accepted, update-accepted, quaternion-accepted}
+use Rattle.reached.proofs.Accepting.{heading-accepted, external-accepted, unaided-accepted, north-accepted}
+use Rattle.reached.proofs.Headed.{northed}
 use Rattle.reached.proofs.Sound.{updated-sound, startup-sound, fresh-sound, restarted-sound, settings-sound, period-sound, quaternion-sound}
 
 pub after-call : (s : Ahrs) → Sound s → (c : Call) → Sound (stepOf outlineOf s c .state)
@@ -35,6 +41,15 @@ after-call s h (set-sample-period p) =
     period-sound s p h (both (finiteState s) (finite p) (f .0) .1))
 after-call s h (set-quaternion q) =
     settled Sound (refusalOf (quaternionChecks s q)) (withQuaternion s q) s h (λ e. quaternion-sound s q h (quaternion-accepted s q e .0))
+after-call s h (set-heading x) = settled Sound (refusalOf (setChecks s x)) (withHeading s x) s h (λ e. quaternion-sound s _ h (heading-accepted s x e))
+after-call s h (update-external-heading g a x) =
+    settled Sound (refusalOf (externalChecks s g a x)) (externalOf s g a x) s h
+    (λ e. updated-sound s h g a (magnetometerOf (s .quaternion) x) (external-accepted s g a x e))
+after-call s h (update-no-magnetometer g a) =
+    settled Sound (refusalOf (unaidedChecks s g a)) (northedOf (unaidedOf s g a)) s h
+    (λ e.
+    let first = updated-sound s h g a zeroVector (unaided-accepted s g a e) in
+    northed Sound (unaidedOf s g a) first (λ t. quaternion-sound (unaidedOf s g a) _ first (north-accepted s g a e t)))
 
 pub started-sound : (t : Settings) → refusalOf (settingsChecks t) ≡ 0 → Sound (freshOf t (derivedOf t))
 started-sound t e =

@@ -1,16 +1,19 @@
 -- Nothing else depends on the axes that went over and on the counts of ignored updates: `OnlyShown` holds. Assumes nothing.
 use Prim.Native.Nat.{ℕ, zero, suc}
-use mathlib.Core.Path.{_≡_, refl, ap, ap₂, _∙_}
+use mathlib.Core.Path.{_≡_, refl, sym, ap, ap₂, _∙_}
 use mathlib.Core.Bool.{Bool, true, false, cond, not, _&&_}
 use mathlib.Core.List.{[], _∷_}
 use lib.IntN.{ℤ}
 use lib.Ieee.{Float, lt}
+use lib.Ieee.Scale.{finite}
+use Rattle.number.specs.Float32 as float
 use Rattle.number.specs.Float32.{_⊖_}
 use Rattle.answer.specs.Refusals.{refusalOf, accepted, check}
 use Rattle.answer.specs.declared.Answer.the-variants.{Refused}
-use Rattle.answer.specs.Runs.{answer, stepOf}
+use Rattle.answer.specs.Runs.{Told, answer, stepOf}
+use Rattle.trig.specs.Degrees.{inTurn}
 use Rattle.vector.specs.declared.Vector.{Vector}
-use Rattle.vector.specs.Vectors.{finiteVector, isZeroOf, addOf, mulOf}
+use Rattle.vector.specs.Vectors.{zeroVector, finiteVector, isZeroOf, addOf, mulOf}
 use Rattle.math.specs.declared.quaternion.Quaternion.{Quaternion}
 use Rattle.settings.specs.declared.config.Config.{Config}
 use Rattle.settings.specs.declared.axes.Axes.{Axes}
@@ -26,7 +29,10 @@ use Rattle.ahrs.specs.declared.update.HalfFeedback.{HalfFeedback}
 use Rattle.ahrs.specs.Filter.{finiteState, freshOf, restartedOf, skippedStartup, withSettings, withThreshold, withSamplePeriod, withQuaternion}
 use Rattle.ahrs.specs.Filter.{softRestartedOf, overrangeOf, halfFeedbackOf, updatedOf}
 use Rattle.ahrs.specs.Calls.{updateChecks, orientedOf, stateChecks, changeChecks, periodChecks, quaternionChecks}
+use Rattle.heading.specs.Turn.{finitePoint, rollOf, magnetometerOf}
+use Rattle.heading.specs.Calls.{withHeading, headable, setChecks, externalOf, externalChecks, unaidedOf, northedOf, unaidedChecks}
 use Rattle.reached.specs.Runs.{Call, update, restart, skip-startup, set-settings, set-sample-period, set-quaternion, outlineOf}
+use Rattle.reached.specs.Runs.{set-heading, update-external-heading, update-no-magnetometer}
 use Rattle.reached.specs.Shown.{uncounted, forgotten, OnlyShown}
 
 -- ---- an update
@@ -124,6 +130,37 @@ refused-alike s g a m =
     (λ (finite : Bool). refusalOf (check 4 (not (knownConvention (s .settings))) ∷ check 5 (not given) ∷ check 7 (not finite) ∷ []))
     (ap finiteState (updated-rest s g a m))
 
+external-alike : (s : Ahrs) (g a : Vector) (h : Float) → refusalOf (externalChecks (forgotten s) g a h) ≡ refusalOf (externalChecks s g a h)
+unfolding finiteState finiteRejection
+external-alike s g a h =
+    ap
+    (λ (b : Bool). refusalOf
+    (check 4 (not (knownConvention (s .settings))) ∷ check 5 (not (finiteState s)) ∷ check 5 (not (finiteVector g && finiteVector a && finite h))
+    ∷ check 6 (not (inTurn h)) ∷ check 7 (not (finitePoint (rollOf (s .quaternion)))) ∷ check 7 (not b) ∷ []))
+    (ap finiteState (updated-rest s g a (magnetometerOf (s .quaternion) h)))
+
+unaided-alike : (s : Ahrs) (g a : Vector) → refusalOf (unaidedChecks (forgotten s) g a) ≡ refusalOf (unaidedChecks s g a)
+unfolding finiteState finiteRejection
+unaided-alike s g a =
+    let given = finiteState s && (finiteVector g && finiteVector a && finiteVector zeroVector) in
+    ap
+    (λ (next : Ahrs). refusalOf
+    (check 4 (not (knownConvention (s .settings))) ∷ check 5 (not given) ∷ check 7 (not (finiteState next))
+    ∷ check 7 (next .startup && not (headable (next .quaternion) float.zero)) ∷ []))
+    (updated-rest s g a zeroVector)
+
+-- a heading reads neither
+north-rest : (n : Ahrs) → northedOf (forgotten n) ≡ forgotten (northedOf n)
+unfolding withQuaternion
+north-rest n = go (n .startup)
+  where
+    go : (b : Bool) → cond b (withHeading (forgotten n) float.zero) (forgotten n) ≡ forgotten (cond b (withHeading n float.zero) n)
+    go true = refl
+    go false = refl
+
+unaided-rest : (s : Ahrs) (g a : Vector) → forgotten (northedOf (unaidedOf (forgotten s) g a)) ≡ forgotten (northedOf (unaidedOf s g a))
+unaided-rest s g a = sym (north-rest (unaidedOf (forgotten s) g a)) ∙ ap northedOf (updated-rest s g a zeroVector) ∙ north-rest (unaidedOf s g a)
+
 -- ---- every call
 
 -- accepted or not
@@ -142,17 +179,30 @@ rest-after s (set-settings t) =
     alike (refusalOf (changeChecks s t)) s (withSettings (forgotten s) t (derivedOf t)) (withSettings s t (derivedOf t)) refl
 rest-after s (set-sample-period p) = alike (refusalOf (periodChecks s p)) s (withSamplePeriod (forgotten s) p) (withSamplePeriod s p) refl
 rest-after s (set-quaternion q) = alike (refusalOf (quaternionChecks s q)) s (withQuaternion (forgotten s) q) (withQuaternion s q) refl
+rest-after s (set-heading h) = alike (refusalOf (setChecks s h)) s (withHeading (forgotten s) h) (withHeading s h) refl
+rest-after s (update-external-heading g a h) =
+    alike (refusalOf (externalChecks (forgotten s) g a h)) s (externalOf (forgotten s) g a h) (externalOf s g a h)
+    (updated-rest s g a (magnetometerOf (s .quaternion) h))
+    ∙ ap (λ (n : ℕ). forgotten (accepted n (externalOf s g a h) s)) (external-alike s g a h)
+rest-after s (update-no-magnetometer g a) =
+    alike (refusalOf (unaidedChecks (forgotten s) g a)) s (northedOf (unaidedOf (forgotten s) g a)) (northedOf (unaidedOf s g a)) (unaided-rest s g a)
+    ∙ ap (λ (n : ℕ). forgotten (accepted n (northedOf (unaidedOf s g a)) s)) (unaided-alike s g a)
+
+abbrev oriented : ℕ → Quaternion → Told
+oriented n q = answer (accepted n (orientedOf q) (Refused n))
 
 told-after : (s : Ahrs) (c : Call) → stepOf outlineOf (forgotten s) c .told ≡ stepOf outlineOf s c .told
 unfolding finiteState finiteRejection
-told-after s (update g a m) =
-    ap₂ (λ (n : ℕ) (q : Quaternion). answer (accepted n (orientedOf q) (Refused n)))
-    (refused-alike s g a m) (ap (λ (k : Ahrs). k .quaternion) (updated-rest s g a m))
+told-after s (update g a m) = ap₂ oriented (refused-alike s g a m) (ap (λ (k : Ahrs). k .quaternion) (updated-rest s g a m))
+told-after s (update-external-heading g a h) =
+    ap₂ oriented (external-alike s g a h) (ap (λ (k : Ahrs). k .quaternion) (updated-rest s g a (magnetometerOf (s .quaternion) h)))
+told-after s (update-no-magnetometer g a) = ap₂ oriented (unaided-alike s g a) (ap (λ (k : Ahrs). k .quaternion) (unaided-rest s g a))
 told-after s restart = refl
 told-after s skip-startup = refl
 told-after s (set-settings t) = refl
 told-after s (set-sample-period p) = refl
 told-after s (set-quaternion q) = refl
+told-after s (set-heading h) = refl
 
 pub only-shown : OnlyShown
 only-shown = record { told = told-after; rest = rest-after }

@@ -5,7 +5,7 @@ use mathlib.Core.Path.{_≡_}
 use mathlib.Core.Bool.{Bool, true, false, not, cond}
 use mathlib.Core.List.{List, [], _∷_}
 use lib.Dec.{eqb, ltb}
-use Rattle.answer.specs.Refusals.{refusalOf, accepted}
+use Rattle.answer.specs.Refusals.{Check, refusalOf, accepted}
 use Rattle.answer.specs.Runs.{stepOf, runOf, Throughout}
 use Rattle.vector.specs.declared.Vector.{Vector}
 use Rattle.vector.specs.Vectors.{zeroVector, addOf}
@@ -17,7 +17,10 @@ use Rattle.step.specs.Sensor.{largestCount, longerOf}
 use Rattle.ahrs.specs.declared.Ahrs.{Ahrs}
 use Rattle.ahrs.specs.Filter.{freshOf, feedbackOf, updatedOf}
 use Rattle.ahrs.specs.Calls.{updateChecks, stateChecks}
+use Rattle.heading.specs.Turn.{magnetometerOf}
+use Rattle.heading.specs.Calls.{externalChecks, unaidedChecks}
 use Rattle.reached.specs.Runs.{Call, update, restart, skip-startup, set-settings, set-sample-period, set-quaternion, outlineOf}
+use Rattle.reached.specs.Runs.{set-heading, update-external-heading, update-no-magnetometer}
 
 pub data Sensor : Type 0 where
   accelerometer : Sensor
@@ -54,13 +57,20 @@ pub data Effect : Type 0 where
   updates : Bool → Bool → Effect
   leaves : Effect
 
+-- an update's, of whatever kind, by its checks and its readings
+abbrev updateEffect : Sensor → Ahrs → List Check → Vector → Vector → Vector → Effect
+updateEffect k s cs g a m = accepted (refusalOf cs) (updates (anyOf (overOf (s .config) g)) (markOf k (updatedOf s g a m))) leaves
+
 abbrev pub effectOf : Sensor → Ahrs → Call → Effect
-effectOf k s (update g a m) = accepted (refusalOf (updateChecks s g a m)) (updates (anyOf (overOf (s .config) g)) (markOf k (updatedOf s g a m))) leaves
+effectOf k s (update g a m) = updateEffect k s (updateChecks s g a m) g a m
+effectOf k s (update-external-heading g a h) = updateEffect k s (externalChecks s g a h) g a (magnetometerOf (s .quaternion) h)
+effectOf k s (update-no-magnetometer g a) = updateEffect k s (unaidedChecks s g a) g a zeroVector
 effectOf k s restart = accepted (refusalOf (stateChecks s)) clears leaves
 effectOf k s skip-startup = leaves
 effectOf k s (set-settings t) = leaves
 effectOf k s (set-sample-period p) = leaves
 effectOf k s (set-quaternion q) = leaves
+effectOf k s (set-heading h) = leaves
 
 -- the effects of a run, the latest first, and then those before it
 abbrev pub effectsOf : Sensor → Ahrs → List Call → List Effect → List Effect

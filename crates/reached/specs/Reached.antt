@@ -12,6 +12,7 @@ use Rattle.step.specs.declared.Rejection.{Rejection}
 use Rattle.ahrs.specs.declared.Ahrs.{Ahrs}
 use Rattle.ahrs.specs.Filter.{finiteState, freshOf}
 use Rattle.reached.specs.Runs.{Call, update, restart, skip-startup, set-settings, set-sample-period, set-quaternion, outlineOf}
+use Rattle.reached.specs.Runs.{set-heading, update-external-heading, update-no-magnetometer}
 
 -- a trigger is not below 0, and a threshold is 0 or T
 pub record Counted (timeout : ℤ) (r : Rejection) : Type 0 where
@@ -44,6 +45,9 @@ Raises s restart = Unit {0}
 Raises s skip-startup = Unit {0}
 Raises s (set-sample-period p) = Unit {0}
 Raises s (set-quaternion q) = Unit {0}
+Raises s (set-heading h) = Unit {0}
+Raises s (update-external-heading g a h) = Unit {0}
+Raises s (update-no-magnetometer g a) = Unit {0}
 
 -- a trigger goes above T only where T is lowered
 pub record OnlyLowered : Type 0 where

@@ -11,7 +11,6 @@ use lib.ListN.{replicate}
 use lib.IntN.{ℤ, pos}
 use Rattle.answer.specs.Refusals.{refusalOf}
 use Rattle.answer.specs.Runs.{stepOf, runOf, Throughout}
-use Rattle.vector.specs.declared.Vector.{Vector}
 use Rattle.vector.specs.Vectors.{zeroVector}
 use Rattle.rejection.specs.declared.Counts.{Counts}
 use Rattle.rejection.specs.Counts.{resetOf}
@@ -23,10 +22,10 @@ use Rattle.step.specs.Sensor.{countsOf}
 use Rattle.ahrs.specs.declared.Ahrs.{Ahrs}
 use Rattle.ahrs.specs.Filter.{freshOf}
 use Rattle.ahrs.specs.Read.{flagsOf}
-use Rattle.reached.specs.Runs.{Call, update, outlineOf}
+use Rattle.reached.specs.Runs.{Call, outlineOf}
 use Rattle.reached.specs.Reached.{Sound}
 use Rattle.reached.specs.Deaf.{Sensor, ofSensor, reachedOf}
-use Rattle.reached.specs.Hearing.{hears, heardIn, heardOf, rejectionOf, residualAt, addedBy, Keeps}
+use Rattle.reached.specs.Hearing.{hears, heardIn, heardOf, rejectionOf, residualIn, addedBy, Keeps}
 
 -- ---- where a sensor stands
 
@@ -51,8 +50,8 @@ abbrev pub Recovering : Sensor → ℕ → ℕ → Ahrs → Type 0
 Recovering k T n now = Led k (pos T) (begun T) (replicate n good) now
 
 -- an update that brings it a reading over the limit
-abbrev pub Over : Sensor → Ahrs → Vector → Vector → Vector → Type 0
-Over k s g a m = heardIn k s (update g a m) ≡ hears over
+abbrev pub Over : Sensor → Ahrs → Call → Type 0
+Over k s c = heardIn k s c ≡ hears over
 
 -- ---- what holds of it
 
@@ -60,8 +59,8 @@ pub record ComesBack (k : Sensor) (T : ℕ) : Type 0 where
   -- after n readings over the limit the trigger is the smaller of n and T
   pub trigger : (n : ℕ) (s : Ahrs) → LockedOut k T n s → rejectionOf k s .«recovery_trigger» ≡ pos (min n T)
   -- the first T of them add zero to the feedback, and each later one its residual
-  pub ignored : (n : ℕ) (s : Ahrs) → LockedOut k T n s → n < T → (g a m : Vector) → Over k s g a m → addedBy k s g a m ≡ zeroVector
-  pub used : (n : ℕ) (s : Ahrs) → LockedOut k T n s → T ≤ n → (g a m : Vector) → Over k s g a m → addedBy k s g a m ≡ residualAt k s a m
+  pub ignored : (n : ℕ) (s : Ahrs) → LockedOut k T n s → n < T → (c : Call) → Over k s c → addedBy k s c ≡ zeroVector
+  pub used : (n : ℕ) (s : Ahrs) → LockedOut k T n s → T ≤ n → (c : Call) → Over k s c → addedBy k s c ≡ residualIn k s c
   -- with the first that is used recovery has begun, and the trigger is T
   pub begins : (n : ℕ) (s : Ahrs) → LockedOut k T n s → T < n → Keeps k (pos T) (begun T) s
   -- which is how it stands in any reached state with the flag up and the trigger at T
@@ -75,10 +74,10 @@ pub record ComesBack (k : Sensor) (T : ℕ) : Type 0 where
   -- one over the limit adds its residual too, in any reached state, and never ends it
   pub bad-used
       : (s : Ahrs) → Sound s → s .config .«rejection_timeout» ≡ pos T → flagOf k s ≡ true
-      → (g a m : Vector) → Over k s g a m → addedBy k s g a m ≡ residualAt k s a m
+      → (c : Call) → Over k s c → addedBy k s c ≡ residualIn k s c
   pub bad
       : 1 ≤ T → (s : Ahrs) → Sound s → s .config .«rejection_timeout» ≡ pos T → flagOf k s ≡ true
-      → (g a m : Vector) → Over k s g a m → flagOf k (stepOf outlineOf s (update g a m) .state) ≡ true
+      → (c : Call) → Over k s c → flagOf k (stepOf outlineOf s c .state) ≡ true
 
 -- T from 0 to 2^31 - 2
 abbrev pub AlwaysBack : Type 0
@@ -87,15 +86,15 @@ AlwaysBack = (k : Sensor) (T : ℕ) → T < 2147483647 → ComesBack k T
 -- a reading that is all zero changes neither trigger nor threshold, whatever T is
 abbrev pub Unread : Type 0
 Unread =
-    (k : Sensor) (s : Ahrs) (g a m : Vector) → heardIn k s (update g a m) ≡ hears all-zero
-    → countsOf (rejectionOf k (stepOf outlineOf s (update g a m) .state)) ≡ countsOf (rejectionOf k s)
+    (k : Sensor) (s : Ahrs) (c : Call) → heardIn k s c ≡ hears all-zero
+    → countsOf (rejectionOf k (stepOf outlineOf s c .state)) ≡ countsOf (rejectionOf k s)
 
 -- T = 2^31 - 1, to which every longer timeout is cut: from freshly reset, whatever is read, recovery does not begin
 pub record NeverBegins : Type 0 where
   pub down : (k : Sensor) (xs : List Kind) (s : Ahrs) → Led k largest (resetOf largest) xs s → flagOf k s ≡ false
   pub ignored
       : (k : Sensor) (xs : List Kind) (s : Ahrs) → Led k largest (resetOf largest) xs s
-      → (g a m : Vector) → Over k s g a m → addedBy k s g a m ≡ zeroVector
+      → (c : Call) → Over k s c → addedBy k s c ≡ zeroVector
 
 -- ---- when it is freshly reset: in startup, in every reached state; the first reading that counts is that of the update in which startup ends
 
