@@ -10,21 +10,21 @@ const MOST: u64 = 0xffff_ffff_ffff_ffff;
 
 // By kind, as `vectors::kind` numbers them.
 struct Tally {
-    read: [u64; 4],
-    wrong: [u64; 4],
+    read: [u64; 5],
+    wrong: [u64; 5],
 }
 
 // One more of a kind.
-fn count(counts: &mut [u64; 4], kind: usize)
-    requires { ⌜ kind < 4 ⌝ }
+fn count(counts: &mut [u64; 5], kind: usize)
+    requires { ⌜ kind < 5 ⌝ }
 {
     counts[kind] = std::num::wrapping_add_u64(counts[kind], 1);
 }
 
 // A last vector that is cut short is not counted.
 fn run() -> Tally {
-    let mut read = [0u64; 4];
-    let mut wrong = [0u64; 4];
+    let mut read = [0u64; 5];
+    let mut wrong = [0u64; 5];
     let mut v = [0u8; 24];
     let mut n: u64 = 0;
     while n < MOST {
@@ -57,5 +57,6 @@ fn main() {
     print_kind(b"sines", read[0], wrong[0]);
     print_kind(b"cosines", read[1], wrong[1]);
     print_kind(b"limits", read[2], wrong[2]);
-    print_kind(b"unknown", read[3], wrong[3]);
+    print_kind(b"angles", read[3], wrong[3]);
+    print_kind(b"unknown", read[4], wrong[4]);
 }
