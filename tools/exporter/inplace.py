@@ -4,7 +4,11 @@ import build
 import command
 
 # Each place of the Rust where degrees become radians for one of them: the file, what stands there, and what does in the copy.
-KEPT = (("ahrs.rs", "libm::sinf(degrees * DEG_TO_RAD)", "libm::sinf(degrees)"),)
+KEPT = (
+    ("ahrs.rs", "libm::sinf(degrees * DEG_TO_RAD)", "libm::sinf(degrees)"),
+    ("ahrs.rs", "0.5 * (yaw - heading * DEG_TO_RAD)", "0.5 * (yaw - heading)"),
+    ("ahrs.rs", "let heading_radians = heading * DEG_TO_RAD;", "let heading_radians = heading;"),
+)
 
 
 def rust(sources, into):

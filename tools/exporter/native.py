@@ -15,7 +15,13 @@ BUILD = build.TOP / "target/native"
 # The Rust's files whose types have private fields.
 PRIVATE = ("ahrs.rs", "bias.rs")
 # What a run makes: its kind, the line that counts it, and of how many one.
-KINDS = (("updates", "updates", 1), ("readings", "readings", 1), ("others", "calls without a state", 10), ("records", "records accepted", 10))
+KINDS = (
+    ("updates", "updates", 1),
+    ("headings", "calls without a compass", 1),
+    ("readings", "readings", 1),
+    ("others", "calls without a state", 10),
+    ("records", "records accepted", 10),
+)
 # The lines that count the other calls.
 OTHERS = ("other calls of the filter", "other calls of the estimator", "calls without a state", "reads beside an update or a reading")
 # With these an overflow or a shift by too much stops the program, as an index beyond the end does without them.
@@ -59,7 +65,7 @@ def opened(text):
 
 
 def rust(sources, into):
-    """The Rust's files with the port's sine in place, opened. Only the limits of angles come of a sine."""
+    """The Rust's files with the port's sine, cosine and angle in place, opened."""
     inplace.rust(sources, into)
     for name in PRIVATE:
         path = into / "src" / name

@@ -2,13 +2,27 @@
 
 use crate::generate::{Script, bits};
 use crate::machine::gives;
+use crate::random::Random;
 use crate::record::record;
+use crate::rust::floats;
 use crate::state::{self, ACCELERATION, MAGNETIC};
+use crate::words::f;
 
 /// No call of a script: the counts of ignored updates are set on both sides.
 pub const SET_COUNTS: u32 = 0x200;
 /// Nor is this: the settings are given anew, one limit squared and the other in degrees.
 pub const SET_KINDS: u32 = 0x201;
+/// Nor this: floats of the state are set on both sides.
+pub const SET_FLOATS: u32 = 0x202;
+
+/// A part of an orientation that is none: of any size, or so large that its square nearly overflows, or does.
+fn any_part(r: &mut Random) -> u32 {
+    match r.below(4) {
+        0 => r.finite(),
+        1 => bits(r.pick(&[1.0, -1.0]) * 10f64.powf(18.0 + 2.0 * r.unit())),
+        _ => r.common(),
+    }
+}
 
 impl Script<'_> {
     /// Some hundred updates under settings of their own.
@@ -83,12 +97,49 @@ impl Script<'_> {
         self.row();
     }
 
+    /// Some hundred calls, the three without a compass among them.
+    pub fn without_compass(&mut self) {
+        match self.random.below(12) {
+            0 => (0..50).for_each(|_| self.hard()),
+            1 => (0..50).for_each(|_| self.on_any_state()),
+            _ => self.headings(),
+        }
+    }
+
+    /// One of these on a state as no call leaves it: with floats that are not finite, or an orientation of any size.
+    fn on_any_state(&mut self) {
+        let (haste, was) = (std::mem::take(&mut self.haste), self.machine.ahrs.clone());
+        let ahrs = self.machine.ahrs.as_mut().unwrap();
+        let r = &mut self.random;
+        if r.one_in(4) {
+            *floats(ahrs)[r.below(14) as usize] = f(r.not_finite());
+        } else {
+            let parts = if r.one_in(4) { 0..14 } else { 0..4 };
+            floats(ahrs)[parts].iter_mut().for_each(|part| **part = f(any_part(r)));
+        }
+        self.set_floats();
+        if self.random.one_in(4) {
+            self.strange_heading()
+        } else {
+            self.one_heading()
+        }
+        let (ahrs, mut was) = (self.machine.ahrs.as_mut().unwrap(), was.unwrap());
+        floats(ahrs).into_iter().zip(floats(&mut was)).for_each(|(is, was)| *is = *was);
+        self.set_floats();
+        self.haste = haste;
+    }
+
+    fn set_floats(&mut self) {
+        (self.out)(&record(SET_FLOATS, &[]), &gives([]), &self.machine);
+    }
+
     /// Calls of every other kind.
     pub fn others(&mut self) {
-        match self.random.below(4) {
+        match self.random.below(5) {
             0 => self.mounting(),
             1 => self.fuzz(),
             2 => self.sine(),
+            3 => self.point(),
             _ => self.math(),
         }
     }

@@ -1,12 +1,13 @@
 //! Every call on both sides: the answers, the whole states after it, and one call that reads them, must be the same words.
 
-use crate::aim::{SET_COUNTS, SET_KINDS};
+use crate::aim::{SET_COUNTS, SET_FLOATS, SET_KINDS};
 use crate::axes::over;
 use crate::closed;
 use crate::machine::{Answer, Machine, Side, side};
 use crate::port::{self, Port};
-use crate::record::{QUIET, READS, Record, to_text};
+use crate::record::{QUIET, READS, Record, UPDATES, to_text};
 use crate::rust;
+use crate::state::ahrs_finite;
 use crate::tally::Tally;
 use crate::words::of_v;
 use gateweave::ahrs::Ahrs;
@@ -37,6 +38,11 @@ impl Differ {
             self.ignored = machine.ignored;
             return;
         }
+        if r[0] == SET_FLOATS {
+            self.port.set_floats(&machine.ahrs_words());
+            self.ahrs = self.port.ahrs.map(|ours| same_filter("the state that is set", || to_text(r), machine, &ours));
+            return;
+        }
         if r[0] == SET_KINDS {
             same_answer("the answer", r, answer, &self.port.set_limits(machine.limits, machine.in_degrees));
             return self.filter(r, answer.number, machine);
@@ -56,27 +62,36 @@ impl Differ {
             return;
         };
         let after = same_filter("the state after a call", || to_text(r), machine, &ours);
-        if let (0x86, Some(before)) = (r[0], self.ahrs) {
-            self.tally.update(r, number, self.in_degrees, &before, &after);
-            self.tally.axes(self.axes, machine.axes);
-            if number == 0 {
-                self.tally.counts(over(&r[1..4], &before), self.ignored, machine.ignored);
-            }
-            let code = READS[self.tally.updates as usize % READS.len()];
+        let before = self.ahrs.unwrap_or(after);
+        match r[0] {
+            0x86 => self.update(r, number, machine, &before, &after),
+            0x93..=0x95 => self.tally.heading(r, number, &before, &after),
+            _ => self.tally.change(r, number, &before),
+        }
+        if matches!(r[0], 0x80 | 0x81 | 0x90 | 0x91) {
+            self.tally.settings_by(r[0] >= 0x90, number, self.in_degrees[0]);
+        }
+        // What is not finite, which no call leaves, has no answer to be read.
+        if UPDATES.contains(&r[0]) && ahrs_finite(&after) {
+            let made = self.tally.updates + self.tally.headings;
+            let code = READS[made as usize % READS.len()];
             same_answer("what is read after it", r, &machine.read(theirs, code), &port::read(ours, code));
             self.tally.reads += 1;
-            if self.tally.updates % 5003 == 0 {
+            if made % 5003 == 0 {
                 assert!(closed::of_ahrs(theirs) == rust::of_ahrs(theirs), "the Rust's fields and its Debug text differ");
                 self.tally.texts += 1;
-            }
-        } else {
-            self.tally.change(r, number, self.ahrs.as_ref().unwrap_or(&after));
-            if matches!(r[0], 0x80 | 0x81 | 0x90 | 0x91) {
-                self.tally.settings_by(r[0] >= 0x90, number, self.in_degrees[0]);
             }
         }
         self.ahrs = Some(after);
         (self.axes, self.ignored, self.in_degrees) = (machine.axes, machine.ignored, machine.in_degrees);
+    }
+
+    fn update(&mut self, r: &Record, number: u32, machine: &Machine, before: &[u32; 37], after: &[u32; 37]) {
+        self.tally.update(r, number, self.in_degrees, before, after);
+        self.tally.axes(self.axes, machine.axes);
+        if number == 0 {
+            self.tally.counts(over(&r[1..4], before), self.ignored, machine.ignored);
+        }
     }
 
     fn estimator(&mut self, r: &Record, number: u32, machine: &Machine) {

@@ -1,6 +1,8 @@
 //! The exported text beside the Rust, in one process. `native` with no argument says what it can do.
 
 mod aim;
+#[path = "../oracle/angles.rs"]
+mod angles;
 #[path = "../oracle/axes.rs"]
 mod axes;
 #[path = "../oracle/closed.rs"]
@@ -21,6 +23,9 @@ mod filter;
 mod generate;
 #[path = "../oracle/geometry.rs"]
 mod geometry;
+mod heading_tally;
+#[path = "../oracle/headings.rs"]
+mod headings;
 #[path = "../oracle/ignored.rs"]
 mod ignored;
 #[path = "../oracle/knock.rs"]
@@ -71,8 +76,10 @@ use tally::Tally;
 
 const HELP: &str = "native run KIND SEED COUNT   calls on both sides, until there are COUNT of the kind
 native patterns              every pattern of 32 bits, by the root, the conversions, and sine and cosine
+native tangents              the points of every tangent in steps of 2^-24, by the angle
 
-KIND is updates, readings, records (of whole logs), or others (calls without a state, and calls of any kind).
+KIND is updates, headings (without a compass), readings, records (of whole logs), or others (calls without a state, and calls of any
+kind).
 ";
 
 /// A run is made in as many parts, each from a seed of its own, so that what it does is the same however many run at once.
@@ -81,8 +88,8 @@ const PARTS: u64 = 16;
 type Step = fn(&mut generate::Script);
 type Count = fn(&Tally) -> u64;
 
-/// Calls from a seed, until there are so many of a kind.
-fn calls(seed: u64, count: u64, step: Step, done: Count) -> Tally {
+/// Calls from a seed, until there are so many of a kind; one update in `by_headings` is without a magnetometer.
+fn calls(seed: u64, count: u64, by_headings: u64, step: Step, done: Count) -> Tally {
     let differ = RefCell::new(differ::Differ::default());
     let mut script = generate::Script {
         random: random::Random(seed),
@@ -94,6 +101,7 @@ fn calls(seed: u64, count: u64, step: Step, done: Count) -> Tally {
         patience: 1,
         haste: 40,
         by_angles: 4,
+        by_headings,
     };
     script.begin();
     while done(&differ.borrow().tally) < count {
@@ -104,9 +112,10 @@ fn calls(seed: u64, count: u64, step: Step, done: Count) -> Tally {
 
 fn part(kind: &str, seed: u64, count: u64) -> Tally {
     match kind {
-        "updates" => calls(seed, count, |s| s.updates(), |t| t.updates),
-        "readings" => calls(seed, count, |s| s.bias(), |t| t.readings),
-        "others" => calls(seed, count, |s| s.others(), |t| t.plain),
+        "updates" => calls(seed, count, 0, |s| s.updates(), |t| t.updates),
+        "headings" => calls(seed, count, 2, |s| s.without_compass(), |t| t.headings),
+        "readings" => calls(seed, count, 0, |s| s.bias(), |t| t.readings),
+        "others" => calls(seed, count, 0, |s| s.others(), |t| t.plain),
         "records" => logs::run(seed, count),
         _ => panic!("no kind {kind}"),
     }
@@ -139,16 +148,20 @@ fn run(kind: &str, seed: u64, count: u64) {
     }
 }
 
+/// Tries every part of a whole; of how much it was made.
+fn every(part: fn(u64, u64) -> u64) -> u64 {
+    let done = AtomicU64::new(0);
+    in_parts(|n| drop(done.fetch_add(part(n, PARTS), Ordering::Relaxed)));
+    done.into_inner()
+}
+
 fn main() {
     let args: Vec<String> = std::env::args().skip(1).collect();
     let number = |i: usize| args.get(i).and_then(|s| s.parse().ok()).expect("a whole number");
     match args.first().map(String::as_str) {
         Some("run") => run(&args[1], number(2), number(3)),
-        Some("patterns") => {
-            let done = AtomicU64::new(0);
-            in_parts(|n| drop(done.fetch_add(patterns::run(n, PARTS), Ordering::Relaxed)));
-            println!("{} patterns of {}", done.into_inner(), patterns::TRIED);
-        }
+        Some("patterns") => println!("{} patterns of {}", every(patterns::run), patterns::TRIED),
+        Some("tangents") => println!("{} points of every tangent in steps of 2^-24", every(patterns::tangents)),
         _ => print!("{HELP}"),
     }
 }

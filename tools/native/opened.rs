@@ -69,6 +69,28 @@ pub fn limit_of(degrees: f32) -> f32 {
     Ahrs::with_settings(settings).config.acceleration_rejection
 }
 
+/// The floats of a state that more than settings and a period change: orientation, accelerometer, startup gain, both residuals.
+pub fn floats(ahrs: &mut Ahrs) -> [&mut f32; 14] {
+    let (q, a) = (&mut ahrs.quaternion, &mut ahrs.accelerometer);
+    let (i, m) = (&mut ahrs.acceleration.half_residual, &mut ahrs.magnetic.half_residual);
+    [
+        &mut q.w,
+        &mut q.x,
+        &mut q.y,
+        &mut q.z,
+        &mut a.x,
+        &mut a.y,
+        &mut a.z,
+        &mut ahrs.startup_gain,
+        &mut i.x,
+        &mut i.y,
+        &mut i.z,
+        &mut m.x,
+        &mut m.y,
+        &mut m.z,
+    ]
+}
+
 /// Any limit will do here, so no angle is looked for.
 pub fn angle_of(_: f32) -> Option<f32> {
     Some(0.0)

@@ -1,6 +1,7 @@
 //! Every pattern of 32 bits: the root and the conversions beside the Rust's, what is said of a pattern, sine and cosine beside 02's
-//! reference, and the limit of an angle beside the Rust's.
+//! reference, and the limit of an angle beside the Rust's. And every tangent in steps of 2^-24: the angle of its points beside what 02 asks.
 
+use crate::angles;
 use crate::differ::differs;
 use crate::filter::RIGHT_ANGLE;
 use crate::rust;
@@ -66,6 +67,28 @@ fn degrees(n: u32) {
         if theirs != ours {
             differs("the limit of an angle", &pattern(), &[theirs], &[ours]);
         }
+    }
+}
+
+/// The tangent 1 in steps.
+const LEVEL: u64 = 1 << 24;
+
+/// The tangents of one part in so many, from 0 to 1, in each octant: how many points they are.
+pub fn tangents(part: u64, parts: u64) -> u64 {
+    let (from, to) = ((LEVEL + 1) * part / parts, (LEVEL + 1) * (part + 1) / parts);
+    for n in from..to {
+        let small = n as f32 / LEVEL as f32;
+        for (y, x) in [(small, 1.0), (1.0, small)] {
+            [(y, x), (y, -x), (-y, x), (-y, -x)].map(point);
+        }
+    }
+    8 * (to - from)
+}
+
+fn point((y, x): (f32, f32)) {
+    let ours = trig::angle(y, x);
+    if !angles::is_right(y, x, ours) {
+        differs("the angle of a point, and what 02 asks of it", &format!("{y:?} {x:?}"), &[], &[bits(ours)]);
     }
 }
 

@@ -10,6 +10,7 @@ use gateweave::ahrs::{self, Ahrs, Axes, Limit, Settings};
 use gateweave::answer::Answer as Said;
 use gateweave::bias::reads::{ActiveRead, OffsetRead, SettingsRead as BiasSettingsRead};
 use gateweave::bias::{self, Bias, BiasSettings};
+use gateweave::heading;
 use gateweave::math::{Quaternion, Vector};
 use gateweave::trig::{self, Number};
 
@@ -142,6 +143,7 @@ impl Port {
         match code {
             0x47 => number(trig::sin_degrees(f(a[0]))),
             0x48 => number(trig::cos_degrees(f(a[0]))),
+            0x49 => number(trig::angle_degrees(f(a[0]), f(a[1]))),
             0x10..=0x4F => gives(arithmetic(code, a)),
             0x50..=0x5F => mountings(code, a),
             0x60..=0x6F => self.bias(code, a),
@@ -153,6 +155,13 @@ impl Port {
     pub fn set_counts(&mut self, [acceleration, magnetic]: [u32; 2]) {
         let state = self.ahrs.as_mut().expect("the script starts no filter");
         (state.acceleration.ignored_count, state.magnetic.ignored_count) = (acceleration, magnetic);
+    }
+
+    /// Sets the floats that are no settings to the words of a state.
+    pub fn set_floats(&mut self, w: &[u32; 37]) {
+        let state = self.ahrs.as_mut().expect("the script starts no filter");
+        (state.quaternion, state.accelerometer, state.startup_gain) = (quaternion(&w[15..]), vector(&w[19..]), f(w[23]));
+        (state.acceleration.half_residual, state.magnetic.half_residual) = (vector(&w[25..]), vector(&w[31..]));
     }
 
     /// Settings with these limits of these kinds, which no call gives unlike, and else the ones in use.
@@ -187,10 +196,18 @@ impl Port {
             0x84 => state.skip_startup(),
             0x85 => state.set_quaternion(quaternion(a)),
             0x86 => return self.update(state, a),
+            0x93 => heading::set_heading(state, f(a[0])),
+            0x94 => return self.kept(heading::update_external_heading(state, vector(a), vector(&a[3..]), f(a[6]))),
+            0x95 => return self.kept(heading::update_no_magnetometer(state, vector(a), vector(&a[3..]))),
             _ => return read(state, code),
         };
         self.ahrs = Some(change.state);
         numbered(change.number)
+    }
+
+    fn kept(&mut self, reading: ahrs::Reading) -> Answer {
+        self.ahrs = Some(reading.state);
+        said(reading.answer)
     }
 
     fn update(&mut self, mut state: Ahrs, a: &[u32]) -> Answer {

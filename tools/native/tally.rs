@@ -8,7 +8,7 @@ use crate::orientation::{hangs_on_order, is_far, is_zero, steps_beyond};
 use crate::plain::other_zero;
 use crate::record::Record;
 use crate::state::{ACCELERATION, LIMITS_USED, MAGNETIC, OVERRANGE, PRODUCT, QUATERNION, TIMEOUT};
-use crate::words::MINUS_ZERO;
+use crate::words::{MINUS_ZERO, f};
 use fusion_ahrs::Vector;
 
 /// A number for each line that is printed.
@@ -74,6 +74,29 @@ tally! {
     by_angles "settings by angles",
     by_angles_refused "settings by angles refused",
     other_kind "settings by angles after squared limits, or the other way round",
+    headings "calls without a compass",
+    set_heading "set_heading",
+    set_heading5 "set_heading refused 5",
+    set_heading6 "set_heading refused 6",
+    set_heading7 "set_heading refused 7",
+    external "update_external_heading",
+    external5 "update_external_heading refused 5",
+    external6 "update_external_heading refused 6",
+    external7 "update_external_heading refused 7",
+    alone "update_no_magnetometer",
+    alone5 "update_no_magnetometer refused 5",
+    alone7 "update_no_magnetometer refused 7",
+    zeroed "update_no_magnetometer in startup, which sets heading 0",
+    yaw7 "set_heading refused 7 for yaw's point",
+    roll7 "update_external_heading refused 7 for roll's point",
+    state5 "calls without a compass refused for the state",
+    heading_end "headings of 360 degrees either way",
+    beside_heading_end "headings one step beside that",
+    steep "calls without a compass where yaw's point or roll's is nearly zero",
+    heading_on_zero "calls without a compass on a quaternion of zero",
+    heading_on_far "calls without a compass on an orientation far from length 1",
+    external_used "external headings used out of startup",
+    external_ignored "external headings over their limit and ignored",
     readings "readings",
     readings_accepted "readings accepted",
     readings_refused5 "readings refused 5",
@@ -103,6 +126,10 @@ tally! {
     sines_small "sines and cosines below a degree",
     sines5 "sines and cosines refused 5",
     sines6 "sines and cosines refused 6",
+    points "of these, angles of points",
+    points5 "angles of points refused 5",
+    points_even "angles of points about a diagonal, within two steps",
+    points_zero "angles of points with a zero part",
     reads "reads beside an update or a reading",
     texts "states held to their text too",
     logs "logs",
@@ -119,12 +146,8 @@ tally! {
     parts "parts in which they were fed",
 }
 
-fn f(word: u32) -> f32 {
-    f32::from_bits(word)
-}
-
 /// Neighbours among the floats, or the same.
-fn steps(a: u32, b: u32) -> u32 {
+pub fn steps(a: u32, b: u32) -> u32 {
     (a & 0x7FFF_FFFF).abs_diff(b & 0x7FFF_FFFF)
 }
 
@@ -188,6 +211,12 @@ impl Tally {
             self.sines_small += u64::from(f(r[1]).abs() < 1.0);
             self.sines5 += u64::from(answer.number == 5);
             self.sines6 += u64::from(answer.number == 6);
+        }
+        if r[0] == 0x49 {
+            self.points += 1;
+            self.points5 += u64::from(answer.number == 5);
+            self.points_even += u64::from(answer.number == 0 && steps(r[1], r[2]) <= 2);
+            self.points_zero += u64::from(answer.number == 0 && (f(r[1]) == 0.0 || f(r[2]) == 0.0));
         }
     }
 

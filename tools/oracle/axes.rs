@@ -1,6 +1,7 @@
 //! The axes that went over the gyroscope's range, worked out beside the Rust, whose flag says only that some did. A set is a
 //! word: 1 for x, 2 for y and 4 for z, added up.
 
+use crate::record::UPDATES;
 use crate::state::{OVERRANGE, PRODUCT};
 use crate::words::f;
 
@@ -14,8 +15,8 @@ pub fn over(gyroscope: &[u32], before: &[u32; 37]) -> u32 {
 pub fn after(code: u32, was: u32, over: u32, startup: bool) -> u32 {
     match code {
         0x80 | 0x83 | 0x84 | 0x90 => 0,
-        0x86 if !startup => 0,
-        0x86 if over != 0 => over,
+        _ if UPDATES.contains(&code) && !startup => 0,
+        _ if UPDATES.contains(&code) && over != 0 => over,
         _ => was,
     }
 }

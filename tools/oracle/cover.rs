@@ -48,6 +48,7 @@ impl Cover {
         self.zeros(r, number);
         self.records(r, number);
         self.degrees(r, number, were_angles);
+        self.headings(r, number, before.as_ref());
         if let Some(before) = &before {
             self.orientations(r, number, before);
             self.axes(r, number, before, axes);

@@ -15,16 +15,16 @@ const PLACES: [f32; 15] =
 const SETTLING: [u32; 4] = [0x80, 0x81, 0x90, 0x91];
 
 /// The float so many steps above a size, or below it.
-fn beside(size: f32, steps: i32) -> u32 {
+pub fn beside(size: f32, steps: i32) -> u32 {
     size.to_bits().saturating_add_signed(steps)
 }
 
-fn few_steps(r: &mut Random) -> i32 {
+pub fn few_steps(r: &mut Random) -> i32 {
     r.below(5) as i32 - 2
 }
 
-/// An angle whose sine is asked for.
-fn turn(r: &mut Random) -> u32 {
+/// An angle whose sine is asked for, or a heading.
+pub fn turn(r: &mut Random) -> u32 {
     let size = match r.below(8) {
         0 | 1 => beside(r.pick(&PLACES), few_steps(r)),
         2 => bits(45.0 * r.below(9) as f64 + r.within(0.01)),

@@ -3,6 +3,7 @@
 use crate::axes;
 use crate::ignored;
 use crate::machine::{Answer, Machine, gives, refused};
+use crate::sines::refusal;
 use crate::state;
 use crate::words::{all_finite, bits, f, of_q, of_v, q, v};
 use fusion_ahrs::{Ahrs, AhrsSettings, Convention, Quaternion};
@@ -40,7 +41,11 @@ impl Machine {
             return self.ahrs_settings(code, a);
         }
         let next = self.ahrs.clone().expect("the script starts no filter");
-        if code < 0x87 { self.change(next, code, a) } else { self.read(&next, code) }
+        match code {
+            0x82..=0x86 => self.change(next, code, a),
+            0x93..=0x95 => self.heading(next, code, a),
+            _ => self.read(&next, code),
+        }
     }
 
     fn change(&mut self, mut next: Ahrs, code: u32, a: &[u32]) -> Answer {
@@ -63,6 +68,32 @@ impl Machine {
             _ => panic!("the script has a call {code:02X}"),
         }
         self.keep_ahrs(code, next, 0, [])
+    }
+
+    /// Calls 93 to 95. The angle of a point that is not finite is a NaN, which shows in the new state; and where the first half of 95 leaves
+    /// something that is not finite, the second leaves it too.
+    fn heading(&mut self, mut next: Ahrs, code: u32, a: &[u32]) -> Answer {
+        let before = state::of_ahrs(&next);
+        let (readings, heading) = match code {
+            0x93 => (&a[..0], f(a[0])),
+            0x94 => (&a[..6], f(a[6])),
+            _ => (&a[..6], 0.0),
+        };
+        let given = state::ahrs_finite(&before) && all_finite(readings);
+        let number = if given { refusal(heading) } else { 5 };
+        if number != 0 {
+            return refused(number);
+        }
+        match code {
+            0x93 => {
+                next.set_heading(heading);
+                return self.keep_ahrs(code, next, 0, []);
+            }
+            0x94 => next.update_external_heading(v(a), v(&a[3..]), heading),
+            _ => next.update_no_magnetometer(v(a), v(&a[3..])),
+        }
+        let orientation = of_q(next.quaternion());
+        self.keep_ahrs(code, next, axes::over(a, &before), orientation)
     }
 
     pub fn read(&self, ahrs: &Ahrs, code: u32) -> Answer {

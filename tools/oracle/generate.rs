@@ -4,7 +4,7 @@
 use crate::machine::{Answer, Machine};
 use crate::orientation::fit;
 use crate::random::Random;
-use crate::record::{CALLS, QUIET, READS, Record, record};
+use crate::record::{CALLS, QUIET, READS, Record, UPDATES, is_of_degrees, record};
 use crate::state;
 use crate::words::packed;
 
@@ -22,6 +22,8 @@ pub struct Script<'a> {
     pub haste: u64,
     /// Of settings whose limits come from angles one in so many is given by the angles; none where this is 0.
     pub by_angles: u64,
+    /// Of updates one in so many has a heading in place of a magnetometer, or neither; none where this is 0.
+    pub by_headings: u64,
 }
 
 pub fn bits(x: f64) -> u32 {
@@ -30,7 +32,8 @@ pub fn bits(x: f64) -> u32 {
 
 impl Script<'_> {
     pub fn put(&mut self, code: u32, args: &[u32]) -> u32 {
-        let r = self.in_degrees(code, args).unwrap_or_else(|| record(code, args));
+        let r =
+            self.in_degrees(code, args).or_else(|| self.without_magnetometer(code, args)).unwrap_or_else(|| record(code, args));
         self.put_record(r)
     }
 
@@ -44,7 +47,7 @@ impl Script<'_> {
         }
         let answer = self.machine.call(&r);
         (self.out)(&r, &answer, &self.machine);
-        if r[0] & 0xFF == 0x86 {
+        if UPDATES.contains(&(r[0] & !QUIET)) {
             self.leave(answer.number);
         }
         answer.number
@@ -77,6 +80,7 @@ impl Script<'_> {
             "sample" => self.sample(),
             "locked" => self.longest(),
             "degrees" => self.begin_degrees(),
+            "heading" => self.begin_headings(),
             _ => (),
         }
         while self.left > 0 {
@@ -88,6 +92,7 @@ impl Script<'_> {
                 "locked" => self.locked(),
                 "edge" => self.edge(),
                 "degrees" => self.degrees(),
+                "heading" => self.headings(),
                 "fuzz" => self.fuzz(),
                 "mix" => self.mix(),
                 _ => panic!("no mode {mode}"),
@@ -118,6 +123,7 @@ impl Script<'_> {
         self.rotations(any);
         self.rotations(24);
         self.some_degrees();
+        self.some_headings();
         let parts: [(u64, fn(&mut Self)); 5] =
             [(46, Self::edge), (60, Self::math), (68, Self::mounting), (88, Self::bias), (93, Self::fuzz)];
         for (percent, calls) in parts {
@@ -401,7 +407,7 @@ impl Script<'_> {
     /// One call of any kind, but those of degrees, with bits changed at random. A limit that is to be accepted has to be one of the Rust's.
     pub fn fuzz(&mut self) {
         let r = &mut self.random;
-        let left_out = |code: u32| matches!(code, 0x47 | 0x48 | 0x53..=0x55 | 0x68..=0x6C | 0x90 | 0x91);
+        let left_out = |code: u32| is_of_degrees(code) || matches!(code, 0x53..=0x55 | 0x68..=0x6C);
         let (code, _, kinds) = *r.pick(&CALLS.iter().filter(|c| !left_out(c.0)).collect::<Vec<_>>());
         if code == 0x80 || code == 0x81 {
             let mut s = self.ahrs_settings();

@@ -1,6 +1,7 @@
 //! For how many updates in a row, up to now, each sensor was ignored, counted beside the Rust, which keeps only a mark: the
 //! accelerometer's count and then the magnetometer's.
 
+use crate::record::UPDATES;
 use fusion_ahrs::Ahrs;
 
 /// The Rust's marks: whether the last update ignored the accelerometer, and the magnetometer.
@@ -15,7 +16,7 @@ pub fn after(code: u32, was: [u32; 2], over: u32, marks: [bool; 2]) -> [u32; 2] 
     let counted = |i: usize| if marks[i] { from[i].saturating_add(1) } else { 0 };
     match code {
         0x80 | 0x83 | 0x90 => [0; 2],
-        0x86 => [counted(0), counted(1)],
+        _ if UPDATES.contains(&code) => [counted(0), counted(1)],
         _ => was,
     }
 }

@@ -1,9 +1,10 @@
 //! One call after another on the Rust, with the refusal table laid over it: a call is tried on a copy of the state, and the
 //! copy is kept only where nothing refuses it.
 
+use crate::angles;
 use crate::ignored;
 use crate::plain::{arithmetic, mountings};
-use crate::record::{QUIET, Record};
+use crate::record::{QUIET, Record, is_of_degrees};
 use crate::sines;
 use crate::state;
 use crate::words::of_q;
@@ -60,7 +61,7 @@ fn agrees(ahrs: &Ahrs, w: &[u32; 37]) {
 pub fn side(code: u32) -> Side {
     match code {
         0x60..=0x6F => Side::Bias,
-        0x80..=0x92 => Side::Ahrs,
+        0x80..=0x95 => Side::Ahrs,
         _ => Side::None,
     }
 }
@@ -104,14 +105,15 @@ impl Machine {
     pub fn call(&mut self, r: &Record) -> Answer {
         let (code, a) = (r[0] & !QUIET, &r[1..]);
         match code {
-            0x47 | 0x48 | 0x90 | 0x91 if !sines::in_place() => {
+            _ if is_of_degrees(code) && !sines::in_place() => {
                 panic!("call {code:02X} is for the oracle with the port's sine in place")
             }
             0x47 | 0x48 => sines::answer(code, a[0]),
+            0x49 => angles::answer(a),
             0x10..=0x4F => gives(arithmetic(code, a)),
             0x50..=0x5F => mountings(code, a),
             0x60..=0x6F => self.bias(code, a),
-            0x80..=0x92 => self.ahrs(code, a),
+            0x80..=0x95 => self.ahrs(code, a),
             _ => panic!("the script has a call {code:02X}"),
         }
     }

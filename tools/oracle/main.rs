@@ -1,8 +1,10 @@
 //! Answers call scripts by the Rust crate, and makes them. `oracle` with no argument says what it can do.
 
+mod angles;
 mod axes;
 mod cover;
 mod cover_degrees;
+mod cover_headings;
 mod damage;
 mod degrees;
 mod edge;
@@ -10,6 +12,7 @@ mod estimator;
 mod filter;
 mod generate;
 mod geometry;
+mod headings;
 mod ignored;
 mod knock;
 mod locked;
@@ -43,8 +46,9 @@ oracle log                            replay the log on standard input, a line f
 oracle make-log SEED COUNT            a log of up to COUNT records, some damaged in one place
 oracle rows                           the rows of the bench table of a sensor that is locked out
 
-MODE is math, mounting, bias, pole, locked, edge, fuzz, mix (of all these but locked), degrees, or sample (some of each but locked). Calls
-47, 48, 90 and 91, which degrees and sample have, are for the oracle over the Rust with the port's sine in place.
+MODE is math, mounting, bias, pole, locked, edge, fuzz, mix (of all these but locked), degrees, heading, or sample (some of each but
+locked). Calls 47 to 49, 90, 91 and 93 to 95, which degrees, heading and sample have, are for the oracle over the Rust with the port's
+sine, cosine and angle in place.
 ";
 
 /// Each record of the script on standard input.
@@ -71,6 +75,7 @@ fn make(args: &[String], out: &mut impl Write) {
         patience: 4,
         haste: 0,
         by_angles: 0,
+        by_headings: 0,
     };
     script.make(&args[1]);
 }

@@ -56,6 +56,7 @@ pub const CALLS: &[(u32, &str, &[Kind])] = &[
     (0x46, "i32_saturating_sub", &[W; 2]),
     (0x47, "sin_degrees", &[F]),
     (0x48, "cos_degrees", &[F]),
+    (0x49, "angle_degrees", &[F; 2]),
     (0x50, "mounting.turn", &[W, F, F, F]),
     (0x51, "mounting.then", &[W; 2]),
     (0x52, "mounting.inverse", &[W]),
@@ -96,13 +97,24 @@ pub const CALLS: &[(u32, &str, &[Kind])] = &[
     (0x90, "ahrs.with_angles", &[F, W, F, F, F, F, F]),
     (0x91, "ahrs.set_angles", &[F, W, F, F, F, F, F]),
     (0x92, "ahrs.ignored_counts", &[]),
+    (0x93, "ahrs.set_heading", &[F]),
+    (0x94, "ahrs.update_external_heading", &[F; 7]),
+    (0x95, "ahrs.update_no_magnetometer", &[F; 6]),
 ];
+
+/// The calls that update the filter.
+pub const UPDATES: [u32; 3] = [0x86, 0x94, 0x95];
 
 /// The calls that only read the filter.
 pub const READS: [u32; 10] = [0x87, 0x88, 0x89, 0x8A, 0x8B, 0x8C, 0x8D, 0x8E, 0x8F, 0x92];
 
 pub fn call(code: u32) -> Option<&'static (u32, &'static str, &'static [Kind])> {
     CALLS.iter().find(|c| c.0 == code)
+}
+
+/// Whether a call is for the Rust with the port's sine, cosine and angle in place.
+pub fn is_of_degrees(code: u32) -> bool {
+    matches!(code, 0x47..=0x49 | 0x90 | 0x91 | 0x93..=0x95)
 }
 
 pub fn record(code: u32, args: &[u32]) -> Record {

@@ -45,6 +45,7 @@ pub fn make(seed: u64, count: u64) -> Vec<u8> {
         patience: 4,
         haste: 0,
         by_angles: 0,
+        by_headings: 0,
     };
     let settings = accepted_settings(&mut script);
     let Script { mut random, mut machine, .. } = script;

@@ -1,4 +1,5 @@
-"""Builds the second oracle under target/beside/degrees: the same program over the Rust with the port's sine and cosine in place."""
+"""Builds the second oracle under target/beside/degrees: the same program over the Rust with the port's sine, cosine and angle in
+place."""
 import build
 import command
 import inplace
@@ -17,7 +18,7 @@ def oracle(sources, libm):
         root = build.libm(libm)
         stamp, now = BUILD / "stamp", build.print_of(rust, export, build.ORACLE, root.parent)
         if not (stamp.is_file() and stamp.read_text() == now and (BUILD / "oracle").is_file()):
-            command.say("building the Rust with the port's sine in place, and the oracle over it ..")
+            command.say("building the Rust with the port's functions in place, and the oracle over it ..")
             stamp.unlink(missing_ok=True)
             inplace.libm(["rustc"], root, export, BUILD)
             build.crate(rust, BUILD, over=BUILD)

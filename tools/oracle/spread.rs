@@ -1,14 +1,16 @@
 //! How far the port's numbers lie from the Rust's, at every f32 of some ranges: a program of its own, which tools/spread builds over the
 //! exported text, over libm and over a copy of the Rust whose private names are public.
 //!
-//! usage: spread limit|sine|cosine THREADS RANGE..
+//! usage: spread limit|sine|cosine|angle|turned THREADS RANGE..
 //!
 //! A range is FROM-TO, two bit patterns of which the second is left out. Each range is gone through in pieces, and a line for each piece
 //! says the range's place in the list, how many numbers the piece has, and for each distance that is taken: at how many it is 0, the most,
 //! the bits of the number where that is, and the sum.
 
+mod bearings;
 mod reference;
 
+use bearings::{angles, turned};
 use fusion_ahrs::{DEG_TO_RAD, ahrs};
 use gateweave::trig;
 use reference::reference;
@@ -102,6 +104,8 @@ fn main() {
                 "limit" => line(place, piece, limits),
                 "sine" => line(place, piece, sines),
                 "cosine" => line(place, piece, cosines),
+                "angle" => line(place, piece, angles),
+                "turned" => line(place, piece, turned),
                 other => panic!("no distance of {other}"),
             };
             println!("{line}");

@@ -1,4 +1,4 @@
-// The calls of the filter: 80 to 92.
+// The calls of the filter: 80 to 95.
 use super::record::choice_at;
 use super::record::float_at;
 use super::record::quaternion_at;
@@ -193,6 +193,19 @@ fn update(ahrs: Ahrs, record: &[u8]) -> Step {
     read(ahrs.update(gyroscope, accelerometer, magnetometer))
 }
 
+fn update_external_heading(ahrs: Ahrs, record: &[u8]) -> Step {
+    let gyroscope = vector_at(record, 1);
+    let accelerometer = vector_at(record, 4);
+    let heading = float_at(record, 7);
+    read(heading::update_external_heading(ahrs, gyroscope, accelerometer, heading))
+}
+
+fn update_no_magnetometer(ahrs: Ahrs, record: &[u8]) -> Step {
+    let gyroscope = vector_at(record, 1);
+    let accelerometer = vector_at(record, 4);
+    read(heading::update_no_magnetometer(ahrs, gyroscope, accelerometer))
+}
+
 // What a call that only reads the state says.
 fn said_of(ahrs: Ahrs, call: u32) -> Said {
     match call {
@@ -219,6 +232,9 @@ fn tell(ahrs: Ahrs, call: u32, record: &[u8]) -> Step {
         0x84 => changed(ahrs.skip_startup()),
         0x85 => changed(ahrs.set_quaternion(quaternion_at(record, 1))),
         0x86 => update(ahrs, record),
+        0x93 => changed(heading::set_heading(ahrs, float_at(record, 1))),
+        0x94 => update_external_heading(ahrs, record),
+        0x95 => update_no_magnetometer(ahrs, record),
         _ => unchanged(ahrs, said_of(ahrs, call)),
     }
 }

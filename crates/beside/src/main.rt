@@ -113,7 +113,7 @@ fn answer(machine: Machine, record: &[u8]) -> Answered {
     let call = if quiet { word % 0x100 } else { word };
     match call {
         0x60..=0x6C => answer_bias(machine, call, record, quiet),
-        0x80..=0x92 => answer_filter(machine, call, record, quiet),
+        0x80..=0x95 => answer_filter(machine, call, record, quiet),
         _ => Answered {
             machine,
             said: said_plainly(call, record),

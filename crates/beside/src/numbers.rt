@@ -1,4 +1,4 @@
-// The calls of numbers: 40 to 48.
+// The calls of numbers: 40 to 49.
 use super::record::float_at;
 use super::record::whole_at;
 use super::said;
@@ -18,6 +18,7 @@ pub(crate) fn answer(call: u32, record: &[u8]) -> Said {
         0x46 => said::whole(number::saturating_sub(a, b)),
         0x47 => said::number_of(trig::sin_degrees(x)),
         0x48 => said::number_of(trig::cos_degrees(x)),
+        0x49 => said::number_of(trig::angle_degrees(x, float_at(record, 2))),
         _ => said::number(1),
     }
 }
