@@ -15,10 +15,17 @@ import packages
 COUNTER = pathlib.Path(__file__).resolve().parent
 BENCH = packages.BENCH
 NATIVE = platform.machine() == "x86_64"
-# What a row counts, under which name the driver has it, how many calls, and whether both sides have one sum: their sines are not one.
+# What a row counts, under which name the driver has it, how many calls, and whether both sides have one sum: their sines are not one, nor
+# what an angle goes into.
 Row = collections.namedtuple("Row", "label bench count same", defaults=(True,))
 ROWS = (Row("update", "update", 10000), Row("bias reading", "reading", 10000), Row("root", "root", 10000),
         Row("sine", "sine", 10000, False), Row("cosine", "cosine", 10000, False), Row("run of 1000 vectors", "turn", 120))
+HEADED = (Row("angle", "angle", 10000, False), Row("set_heading", "set-heading", 10000, False),
+          Row("update_external_heading", "external-heading", 10000, False), Row("update_no_magnetometer", "no-magnetometer", 10000, False))
+# Each driver, and the files of crates/cost that its archive is without: `headings` has a second caller of the update, which keeps it from
+# being drawn into its own loop, and `once` one of update and reading, which keeps them functions. The first is of the whole crate, and
+# proves what the others stand on.
+DRIVERS = {"headed": ("headed.rs", ()), "called": ("driver.rs", ("headings",)), "inlined": ("driver.rs", ("headings", "once"))}
 
 
 def compiler():
@@ -26,28 +33,35 @@ def compiler():
     return (["rustc"], []) if NATIVE else packages.compiler("x86_64")
 
 
-def archive(inlined):
-    """The folder of the port's loops, proved and compiled; inlined, without the file that keeps the calls functions."""
+def without_files(name, files):
+    """A copy of the crates without some files of crates/cost; what is proved already is not proved again."""
+    top = BENCH / "loops" / name
+    shutil.rmtree(top, ignore_errors=True)
+    top.mkdir(parents=True)
+    shutil.copy(build.TOP / "crates.txt", top)
+    shutil.copytree(build.TOP / "crates", top / "crates")
+    for part in ("rlib", "stamp"):
+        shutil.copytree(build.TOP / "target" / part, top / "target" / part)
+    lib = top / "crates/cost/src/lib.rt"
+    for file in files:
+        lib.with_name(f"{file}.rt").unlink()
+        shutil.rmtree(top / "crates/cost/proofs" / file, ignore_errors=True)
+        lib.write_text("".join(line for line in lib.read_text().splitlines(True) if not line.startswith(f"mod {file};")))
+    return top
+
+
+def archive(name, without):
+    """The folder of the port's loops for a driver, proved and compiled."""
     if not shutil.which("rt"):
         command.stop("the Rattle toolchain is missing: no command rt on the path")
-    command.say(f"proving and compiling the port's loops{', inlined' if inlined else ''} ..")
-    top = build.TOP
-    if inlined:
-        top = BENCH / "without-once"
-        shutil.rmtree(top, ignore_errors=True)
-        top.mkdir(parents=True)
-        shutil.copy(build.TOP / "crates.txt", top)
-        shutil.copytree(build.TOP / "crates", top / "crates")
-        shutil.copytree(build.TOP / "target", top / "target", ignore=shutil.ignore_patterns("bench", "beside", "native", "export", "must-fail"))
-        (top / "crates/cost/src/once.rt").unlink()
-        lib = top / "crates/cost/src/lib.rt"
-        lib.write_text("".join(line for line in lib.read_text().splitlines(True) if not line.startswith("mod once;")))
+    command.say(f"proving and compiling the port's loops, {name} ..")
+    top = without_files(name, without) if without else build.TOP
     build.quietly("rt", "staticlib", "cost", why="the port's loops are not proved", cwd=top)
     return top / "target/staticlib"
 
 
-def driver(rustc, link, rust, libm, port, name):
-    """The driver over the Rust crate and one archive of the port's."""
+def driver(rustc, link, rust, libm, port, name, file):
+    """A driver over the Rust crate and one archive of the port's."""
     def compiled(*args, why):
         build.quietly(*rustc, "-O", "--cap-lints", "allow", "-L", BENCH, *args, why=why)
 
@@ -55,7 +69,7 @@ def driver(rustc, link, rust, libm, port, name):
     compiled("--edition", "2024", "--crate-type", "rlib", "--crate-name", "fusion_ahrs", "--extern", f"libm={BENCH}/liblibm.rlib", "-o",
              BENCH / "libfusion_ahrs.rlib", rust / "src/lib.rs", why="the Rust crate does not compile")
     compiled(*link, "-L", port, "--edition", "2024", "--extern", f"libm={BENCH}/liblibm.rlib", "--extern",
-             f"fusion_ahrs={BENCH}/libfusion_ahrs.rlib", "-o", BENCH / name, COUNTER / "driver.rs", why="the driver does not compile")
+             f"fusion_ahrs={BENCH}/libfusion_ahrs.rlib", "-o", BENCH / name, COUNTER / file, why="the driver does not compile")
     return BENCH / name
 
 
@@ -102,16 +116,15 @@ def replayed(counter, update):
 
 
 def built(args):
-    """The counter, and the driver over the port's calls as functions of their own and inlined."""
+    """The counter, and the drivers by their names."""
     BENCH.mkdir(parents=True, exist_ok=True)
     rust = BENCH / "fusion-ahrs"
     with build.alone():
         build.laid_out(args.rust, rust)
         libm = build.libm(args.libm)
         (rustc, link), counter = compiler(), counting.emulator("x86_64")
-        called = driver(rustc, link, rust, libm, archive(False), "called")
-        inlined = driver(rustc, link, rust, libm, archive(True), "inlined")
-    return counter, called, inlined
+        programs = {name: driver(rustc, link, rust, libm, archive(name, without), name, file) for name, (file, without) in DRIVERS.items()}
+    return counter, programs
 
 
 def commands():
@@ -123,13 +136,15 @@ def commands():
 
 def main(args):
     commands()
-    counter, called, inlined = built(args)
+    counter, programs = built(args)
     print(f"{'':28}{'Rust':>10}{'port':>10}{'ratio':>7}{'   Rust ns   port ns' if NATIVE else ''}  sum")
     counts = {}
     for row in ROWS:
         if row.bench in ("update", "reading"):
-            counts[row.bench] = counted(counter, called, row, ", called")
-            counted(counter, inlined, row, ", inlined")
+            counts[row.bench] = counted(counter, programs["called"], row, ", called")
+            counted(counter, programs["inlined"], row, ", inlined")
         else:
-            counted(counter, called, row)
+            counted(counter, programs["called"], row)
+    for row in HEADED:
+        counted(counter, programs["headed"], row)
     replayed(counter, counts["update"])
