@@ -1,0 +1,5 @@
+pub mod Looks
+pub mod Turns
+pub mod Covered
+pub mod Apart
+pub mod Rows
