@@ -18,6 +18,7 @@ PRIVATE = ("ahrs.rs", "bias.rs")
 KINDS = (
     ("updates", "updates", 1),
     ("headings", "calls without a compass", 1),
+    ("feet", "calls of two filters", 1),
     ("readings", "readings", 1),
     ("others", "calls without a state", 10),
     ("records", "records accepted", 10),

@@ -41,6 +41,6 @@ EDITS = [
     ("a name of the prelude", "answer/src/lib.rt", "Answer::Refused(n) => n,", "Some(n) => n,", "the word Some"),
     ("a comment within a line", FLOAT, BODY, "    /* */ let d = x - x;", "a sign /*"),
     ("a file without its first comment", "rejection/src/lib.rt", "// The two counts", "\n// The two counts", "without its first comment"),
-    ("a module named as a crate", "number/src/wire.rt", None, "// A file.\n", "of one name, wire"),
+    ("a module named as a crate that its own stands on", "offset/src/wire.rt", None, "// A file.\n", "of one name, wire"),
     ("a crate that is not exported", "../crates.txt", "\nlog: settings", "\nlog: verdict settings", "log stands on verdict"),
 ]

@@ -272,9 +272,10 @@ class Project:
         self.crates = [c for c in self.rows if c not in APART and self.has_code(c)]
         self.texts = {(c, stem): t for c in self.crates for stem, t in self.files(c).items()}
         self.methods = {m for t in self.texts.values() for m in METHOD.findall(t)}
-        if clash := {stem for _, stem in self.texts} & {*self.rows, *KIT}:
-            raise Unknown(f"a module and a crate of one name, {sorted(clash)[0]}")
         for crate in self.crates:
+            # A path that begins with the name would be either's.
+            if clash := {stem for c, stem in self.texts if c == crate} & {*self.rows[crate], *KIT}:
+                raise Unknown(f"a module and a crate of one name, {sorted(clash)[0]}")
             if missing := self.rows[crate] - {*self.crates, *KIT, "libc"}:
                 raise Unknown(f"{crate} stands on {sorted(missing)[0]}, which is not exported")
 

@@ -14,6 +14,8 @@ pub const SET_COUNTS: u32 = 0x200;
 pub const SET_KINDS: u32 = 0x201;
 /// Nor this: floats of the state are set on both sides.
 pub const SET_FLOATS: u32 = 0x202;
+/// Nor this: the rows of both parties, and whether their conventions are known.
+pub const SET_FOOT: u32 = 0x203;
 
 /// A part of an orientation that is none: of any size, or so large that its square nearly overflows, or does.
 fn any_part(r: &mut Random) -> u32 {
@@ -21,6 +23,15 @@ fn any_part(r: &mut Random) -> u32 {
         0 => r.finite(),
         1 => bits(r.pick(&[1.0, -1.0]) * 10f64.powf(18.0 + 2.0 * r.unit())),
         _ => r.common(),
+    }
+}
+
+/// A limit of any size, about the largest that a residual can have, or zero.
+fn any_limit(r: &mut Random) -> u32 {
+    match r.below(4) {
+        0 => r.pick(&[0, 0x8000_0000, 1, bits(0.25), bits(0.5), bits(1.0), f32::MAX.to_bits()]),
+        1 => r.float() & 0x7FFF_FFFF,
+        _ => bits(0.3 * r.unit()),
     }
 }
 
@@ -133,6 +144,61 @@ impl Script<'_> {
         (self.out)(&record(SET_FLOATS, &[]), &gives([]), &self.machine);
     }
 
+    /// Turns of two parties, on rows with limits that no angle gives too, and on states as no call leaves them.
+    pub fn feet(&mut self) {
+        match self.random.below(8) {
+            0 => self.strange_feet(),
+            1 | 2 => (0..10).for_each(|_| self.any_row_limits()),
+            _ => self.foot(),
+        }
+    }
+
+    fn any_row_limits(&mut self) {
+        let (mut settings, me) = (self.quick(), self.random.below(2) as u32);
+        let r = &mut self.random;
+        settings[4..6].fill_with(|| any_limit(r));
+        let row = r.below(3) as u32;
+        match r.below(3) {
+            0 => drop(self.put_settled(0xA1, me, &settings)),
+            1 => drop(self.put_settled(0xA3, me, &settings)),
+            _ => {
+                self.put_settled(0xA0, row, &settings);
+                self.put(0xA2, &[me, row]);
+            }
+        }
+        self.step(me);
+    }
+
+    /// Some turns with a row above 7 in use, or a convention that is unknown, and then as before.
+    fn strange_feet(&mut self) {
+        for _ in 0..4 {
+            let (kind, shared) = (self.random.below(3), self.random.one_in(2));
+            let no_row = [0; 2].map(|_: u32| self.random.pick(&[8, 9, 15, 255]));
+            for (me, party) in self.machine.foot.parties.iter_mut().enumerate() {
+                let Some(party) = party else { continue };
+                party.row = if shared { 2 } else { me as u32 };
+                if kind == me as u64 || kind == 2 {
+                    party.unknown = self.random.one_in(2);
+                    party.row = if self.random.one_in(2) { no_row[if shared { 0 } else { me }] } else { party.row };
+                }
+            }
+            self.set_foot();
+            for _ in 0..4 {
+                let me = self.random.below(2) as u32;
+                self.act(me);
+            }
+            for (me, party) in self.machine.foot.parties.iter_mut().enumerate() {
+                let Some(party) = party else { continue };
+                (party.row, party.unknown) = (me as u32, false);
+            }
+            self.set_foot();
+        }
+    }
+
+    fn set_foot(&mut self) {
+        (self.out)(&record(SET_FOOT, &[]), &gives([]), &self.machine);
+    }
+
     /// Calls of every other kind.
     pub fn others(&mut self) {
         match self.random.below(5) {
@@ -148,13 +214,7 @@ impl Script<'_> {
     fn any_limits(&mut self) {
         let mut s = self.ahrs_settings();
         let r = &mut self.random;
-        for limit in &mut s[4..6] {
-            *limit = match r.below(4) {
-                0 => r.pick(&[0, 0x8000_0000, 1, bits(0.25), bits(0.5), bits(1.0), f32::MAX.to_bits()]),
-                1 => r.float() & 0x7FFF_FFFF,
-                _ => bits(0.3 * r.unit()),
-            };
-        }
+        s[4..6].fill_with(|| any_limit(r));
         s[0] = bits(100.0);
         self.put(0x81, &s);
         for _ in 0..20 {

@@ -1,6 +1,6 @@
 //! Every call on both sides: the answers, the whole states after it, and one call that reads them, must be the same words.
 
-use crate::aim::{SET_COUNTS, SET_FLOATS, SET_KINDS};
+use crate::aim::{SET_COUNTS, SET_FLOATS, SET_FOOT, SET_KINDS};
 use crate::axes::over;
 use crate::closed;
 use crate::machine::{Answer, Machine, Side, side};
@@ -43,6 +43,9 @@ impl Differ {
             self.ahrs = self.port.ahrs.map(|ours| same_filter("the state that is set", || to_text(r), machine, &ours));
             return;
         }
+        if r[0] == SET_FOOT {
+            return self.port.foot.set(&machine.foot);
+        }
         if r[0] == SET_KINDS {
             same_answer("the answer", r, answer, &self.port.set_limits(machine.limits, machine.in_degrees));
             return self.filter(r, answer.number, machine);
@@ -53,7 +56,28 @@ impl Differ {
             Side::None => self.tally.plain(r, answer),
             Side::Bias => self.estimator(r, answer.number, machine),
             Side::Ahrs => self.filter(r, answer.number, machine),
+            Side::Foot => self.foot(r, answer.number, machine),
         }
+    }
+
+    fn foot(&mut self, r: &Record, number: u32, machine: &Machine) {
+        let (theirs, ours) = (&machine.foot, &self.port.foot);
+        if theirs.rows != ours.rows() {
+            differs("the table after a call", &to_text(r), theirs.rows.as_flattened(), ours.rows().as_flattened());
+        }
+        assert!(!ours.has_angles(), "a row has got an angle: {}", to_text(r));
+        for (me, party) in theirs.parties.iter().enumerate() {
+            let unknown = party.as_ref().filter(|party| party.unknown).map(|party| party.filter.ahrs_words()[1]);
+            let (Some(party), Some((row, filter))) = (party, ours.filter(me, unknown)) else {
+                assert!(party.is_none() && ours.filter(me, None).is_none(), "one side's party {me} alone has started");
+                continue;
+            };
+            if party.row != row {
+                differs("a party's row", &to_text(r), &[party.row], &[row]);
+            }
+            same_filter("the state of a party", || to_text(r), &party.filter, &filter);
+        }
+        self.tally.foot(r, number, theirs);
     }
 
     fn filter(&mut self, r: &Record, number: u32, machine: &Machine) {

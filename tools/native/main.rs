@@ -5,6 +5,8 @@ mod aim;
 mod angles;
 #[path = "../oracle/axes.rs"]
 mod axes;
+#[path = "../oracle/boards.rs"]
+mod boards;
 #[path = "../oracle/closed.rs"]
 #[allow(dead_code)]
 mod closed;
@@ -19,6 +21,10 @@ mod edge;
 mod estimator;
 #[path = "../oracle/filter.rs"]
 mod filter;
+#[path = "../oracle/foot.rs"]
+mod foot;
+mod foot_port;
+mod foot_tally;
 #[path = "../oracle/generate.rs"]
 mod generate;
 #[path = "../oracle/geometry.rs"]
@@ -78,8 +84,8 @@ const HELP: &str = "native run KIND SEED COUNT   calls on both sides, until ther
 native patterns              every pattern of 32 bits, by the root, the conversions, and sine and cosine
 native tangents              the points of every tangent in steps of 2^-24, by the angle
 
-KIND is updates, headings (without a compass), readings, records (of whole logs), or others (calls without a state, and calls of any
-kind).
+KIND is updates, headings (without a compass), feet (two filters and their table), readings, records (of whole logs), or others (calls
+without a state, and calls of any kind).
 ";
 
 /// A run is made in as many parts, each from a seed of its own, so that what it does is the same however many run at once.
@@ -114,6 +120,7 @@ fn part(kind: &str, seed: u64, count: u64) -> Tally {
     match kind {
         "updates" => calls(seed, count, 0, |s| s.updates(), |t| t.updates),
         "headings" => calls(seed, count, 2, |s| s.without_compass(), |t| t.headings),
+        "feet" => calls(seed, count, 0, |s| s.feet(), |t| t.feet),
         "readings" => calls(seed, count, 0, |s| s.bias(), |t| t.readings),
         "others" => calls(seed, count, 0, |s| s.others(), |t| t.plain),
         "records" => logs::run(seed, count),

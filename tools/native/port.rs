@@ -1,5 +1,6 @@
 //! The exported text, called as a script says: what it answers, and the words of its states.
 
+use crate::foot_port;
 use crate::machine::{Answer, gives, refused};
 use crate::offset_port;
 use crate::plain_port::{arithmetic, mountings};
@@ -18,6 +19,7 @@ use gateweave::trig::{self, Number};
 pub struct Port {
     pub ahrs: Option<Ahrs>,
     pub bias: Option<Bias>,
+    pub foot: foot_port::Port,
     /// Updates and readings so far: one in eight is of a state that is lent.
     calls: u64,
 }
@@ -68,7 +70,7 @@ fn limit(word: u32, in_degrees: bool) -> Limit {
 }
 
 /// The limits of calls 90 and 91 are angles.
-fn settings(code: u32, a: &[u32]) -> Settings {
+pub fn settings(code: u32, a: &[u32]) -> Settings {
     let in_degrees = code >= 0x90;
     Settings {
         sample_rate: f(a[0]),
@@ -85,7 +87,7 @@ pub fn bias_settings(a: &[u32]) -> BiasSettings {
     BiasSettings { sample_rate: f(a[0]), stationary_threshold: f(a[1]), stationary_period: f(a[2]), cutoff_frequency: f(a[3]) }
 }
 
-fn of_settings(s: &Settings) -> [u32; 7] {
+pub fn of_settings(s: &Settings) -> [u32; 7] {
     let [rate, gain, range, timeout] = [s.sample_rate, s.gain, s.gyroscope_range, s.rejection_timeout].map(bits);
     let [acceleration, magnetic] = [s.acceleration_rejection, s.magnetic_rejection].map(|limit| bits(limit.given()));
     [rate, s.convention.into(), gain, range, acceleration, magnetic, timeout]
@@ -147,6 +149,7 @@ impl Port {
             0x10..=0x4F => gives(arithmetic(code, a)),
             0x50..=0x5F => mountings(code, a),
             0x60..=0x6F => self.bias(code, a),
+            0xA0..=0xA4 => self.foot.call(code, a),
             _ => self.ahrs(code, a),
         }
     }

@@ -17,7 +17,7 @@ ORACLE = TOP / "tools/oracle"
 BUILD = TOP / "target/beside"
 SOURCES = TOP.parent / "shared/docs/src"
 PACKAGE = "librust-libm-dev"
-MODES = ("math", "mounting", "bias", "pole", "locked", "edge", "fuzz", "mix", "degrees", "heading")
+MODES = ("math", "mounting", "bias", "pole", "locked", "edge", "fuzz", "mix", "foot", "degrees", "heading")
 # The calls of degrees, and the modes that have them: for the second oracle (second.py).
 DEGREES = (0x47, 0x48, 0x49, 0x90, 0x91, 0x93, 0x94, 0x95)
 IN_DEGREES = ("degrees", "heading", "sample")

@@ -2,7 +2,7 @@
 
 use crate::axes::over;
 use crate::estimator::settings;
-use crate::machine::{Answer, Machine};
+use crate::machine::{Answer, Machine, Side, side};
 use crate::offsets::{given, given_settings, has_minus_zero};
 use crate::orientation::{hangs_on_order, is_far, is_zero, steps_beyond};
 use crate::plain::other_zero;
@@ -41,6 +41,7 @@ impl Cover {
         let before = self.machine.ahrs.is_some().then(|| self.machine.ahrs_words());
         let bias = self.machine.bias.map(|b| state::of_bias(&b));
         let (axes, ignored, were_angles) = (self.machine.axes, self.machine.ignored, self.machine.in_degrees[0]);
+        let foot = (side(code) == Side::Foot).then(|| self.machine.foot.clone());
         let answer = self.machine.call(r);
         let number = answer.number;
         self.count(&format!("{} {number}", call(code).unwrap().1), true);
@@ -49,6 +50,9 @@ impl Cover {
         self.records(r, number);
         self.degrees(r, number, were_angles);
         self.headings(r, number, before.as_ref());
+        if let Some(foot) = &foot {
+            self.foot(r, number, foot);
+        }
         if let Some(before) = &before {
             self.orientations(r, number, before);
             self.axes(r, number, before, axes);

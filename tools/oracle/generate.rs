@@ -1,18 +1,21 @@
 //! Scripts from a seed. The generator runs the calls that it makes, so that it can aim at the state: a limit equal to the
 //! squared residual, a rate equal to the overrange threshold, a T below the trigger.
 
-use crate::machine::{Answer, Machine};
+use crate::machine::{Answer, Machine, gives};
 use crate::orientation::fit;
 use crate::random::Random;
 use crate::record::{CALLS, QUIET, READS, Record, UPDATES, is_of_degrees, record};
 use crate::state;
 use crate::words::packed;
 
+/// What each call is handed to, with the Rust's answer to it and the states after it.
+pub type Out<'a> = dyn FnMut(&Record, &Answer, &Machine) + 'a;
+
 /// A script in the making. Each call is handed on with the Rust's answer to it; one call in `quiet` prints its state.
 pub struct Script<'a> {
     pub random: Random,
     pub machine: Machine,
-    pub out: &'a mut dyn FnMut(&Record, &Answer, &Machine),
+    pub out: &'a mut Out<'a>,
     pub quiet: u64,
     pub left: u64,
     /// Updates refused with 7 since the last accepted one, and after how many the quaternion is set anew.
@@ -34,12 +37,12 @@ impl Script<'_> {
     pub fn put(&mut self, code: u32, args: &[u32]) -> u32 {
         let r =
             self.in_degrees(code, args).or_else(|| self.without_magnetometer(code, args)).unwrap_or_else(|| record(code, args));
-        self.put_record(r)
+        self.put_record(r).number
     }
 
-    fn put_record(&mut self, mut r: Record) -> u32 {
+    pub fn put_record(&mut self, mut r: Record) -> Answer {
         if self.left == 0 {
-            return 0;
+            return gives([]);
         }
         self.left -= 1;
         if self.quiet > 1 && !self.random.one_in(self.quiet) {
@@ -50,7 +53,7 @@ impl Script<'_> {
         if UPDATES.contains(&(r[0] & !QUIET)) {
             self.leave(answer.number);
         }
-        answer.number
+        answer
     }
 
     /// After an update: leaves what would take up the script.
@@ -79,6 +82,7 @@ impl Script<'_> {
             "bias" => self.records(),
             "sample" => self.sample(),
             "locked" => self.longest(),
+            "foot" => self.begin_foot(),
             "degrees" => self.begin_degrees(),
             "heading" => self.begin_headings(),
             _ => (),
@@ -91,6 +95,7 @@ impl Script<'_> {
                 "pole" | "sample" => self.pole(),
                 "locked" => self.locked(),
                 "edge" => self.edge(),
+                "foot" => self.foot(),
                 "degrees" => self.degrees(),
                 "heading" => self.headings(),
                 "fuzz" => self.fuzz(),
@@ -124,8 +129,9 @@ impl Script<'_> {
         self.rotations(24);
         self.some_degrees();
         self.some_headings();
+        self.some_foot();
         let parts: [(u64, fn(&mut Self)); 5] =
-            [(46, Self::edge), (60, Self::math), (68, Self::mounting), (88, Self::bias), (93, Self::fuzz)];
+            [(53, Self::edge), (65, Self::math), (72, Self::mounting), (89, Self::bias), (94, Self::fuzz)];
         for (percent, calls) in parts {
             while self.left > all - all * percent / 100 {
                 calls(self);
@@ -404,10 +410,11 @@ impl Script<'_> {
         self.put(code, &[]);
     }
 
-    /// One call of any kind, but those of degrees, with bits changed at random. A limit that is to be accepted has to be one of the Rust's.
+    /// One call of any kind, but those of degrees and of the foot, with bits changed at random. A limit that is to be accepted has to be
+    /// one of the Rust's.
     pub fn fuzz(&mut self) {
         let r = &mut self.random;
-        let left_out = |code: u32| is_of_degrees(code) || matches!(code, 0x53..=0x55 | 0x68..=0x6C);
+        let left_out = |code: u32| is_of_degrees(code) || matches!(code, 0x53..=0x55 | 0x68..=0x6C | 0xA0..=0xA4);
         let (code, _, kinds) = *r.pick(&CALLS.iter().filter(|c| !left_out(c.0)).collect::<Vec<_>>());
         if code == 0x80 || code == 0x81 {
             let mut s = self.ahrs_settings();

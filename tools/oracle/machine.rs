@@ -2,6 +2,7 @@
 //! copy is kept only where nothing refuses it.
 
 use crate::angles;
+use crate::foot::Foot;
 use crate::ignored;
 use crate::plain::{arithmetic, mountings};
 use crate::record::{QUIET, Record, is_of_degrees};
@@ -30,6 +31,7 @@ pub enum Side {
     None,
     Bias,
     Ahrs,
+    Foot,
 }
 
 #[derive(Clone, Default)]
@@ -43,6 +45,7 @@ pub struct Machine {
     /// For how many updates in a row each sensor was ignored; the Rust keeps whether the last one ignored it.
     pub ignored: [u32; 2],
     pub bias: Option<Bias>,
+    pub foot: Foot,
 }
 
 /// Holds what was read from the Debug text to what the public functions say.
@@ -62,6 +65,7 @@ pub fn side(code: u32) -> Side {
     match code {
         0x60..=0x6F => Side::Bias,
         0x80..=0x95 => Side::Ahrs,
+        0xA0..=0xA4 => Side::Foot,
         _ => Side::None,
     }
 }
@@ -88,11 +92,7 @@ impl Machine {
         for w in &answer.words {
             write!(out, " {w:08X}").unwrap();
         }
-        let shown: &[u32] = match side(r[0] & !QUIET) {
-            Side::Ahrs if r[0] & QUIET == 0 && self.ahrs.is_some() => &self.ahrs_words(),
-            Side::Bias if r[0] & QUIET == 0 && self.bias.is_some() => &state::of_bias(self.bias.as_ref().unwrap()),
-            _ => &[],
-        };
+        let shown = if r[0] & QUIET == 0 { self.shown(r) } else { Vec::new() };
         if !shown.is_empty() {
             out.push_str(" /");
         }
@@ -100,6 +100,17 @@ impl Machine {
             write!(out, " {w:08X}").unwrap();
         }
         out
+    }
+
+    /// The state that is printed after a call.
+    fn shown(&self, r: &Record) -> Vec<u32> {
+        let code = r[0] & !QUIET;
+        match (side(code), &self.bias) {
+            (Side::Ahrs, _) if self.ahrs.is_some() => self.ahrs_words().to_vec(),
+            (Side::Bias, Some(bias)) => state::of_bias(bias).to_vec(),
+            (Side::Foot, _) => self.foot.words(code, r[1]),
+            _ => Vec::new(),
+        }
     }
 
     pub fn call(&mut self, r: &Record) -> Answer {
@@ -114,6 +125,7 @@ impl Machine {
             0x50..=0x5F => mountings(code, a),
             0x60..=0x6F => self.bias(code, a),
             0x80..=0x95 => self.ahrs(code, a),
+            0xA0..=0xA4 => self.foot.call(code, a),
             _ => panic!("the script has a call {code:02X}"),
         }
     }

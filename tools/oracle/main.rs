@@ -1,15 +1,19 @@
 //! Answers call scripts by the Rust crate, and makes them. `oracle` with no argument says what it can do.
 
+mod again;
 mod angles;
 mod axes;
+mod boards;
 mod cover;
 mod cover_degrees;
+mod cover_foot;
 mod cover_headings;
 mod damage;
 mod degrees;
 mod edge;
 mod estimator;
 mod filter;
+mod foot;
 mod generate;
 mod geometry;
 mod headings;
@@ -34,10 +38,13 @@ mod state;
 mod walk;
 mod words;
 
+use machine::{Answer, Machine};
+use record::Record;
 use std::io::{self, BufRead, BufReader, BufWriter, Read, Write};
 
 const HELP: &str = "oracle run                            answer the script on standard input, a line for each call
 oracle make MODE SEED COUNT [QUIET]   a script of COUNT calls, one in QUIET (1) printing its state
+oracle again PARTY SEED               the calls of a party in the script on standard input, with others of the other between them
 oracle text                           a script as text, a line for each call
 oracle binary                         text back to a script
 oracle cover                          what the calls of a script reach, counted
@@ -46,13 +53,13 @@ oracle log                            replay the log on standard input, a line f
 oracle make-log SEED COUNT            a log of up to COUNT records, some damaged in one place
 oracle rows                           the rows of the bench table of a sensor that is locked out
 
-MODE is math, mounting, bias, pole, locked, edge, fuzz, mix (of all these but locked), degrees, heading, or sample (some of each but
+MODE is math, mounting, bias, pole, locked, edge, fuzz, mix (of all these but locked), foot, degrees, heading, or sample (some of each but
 locked). Calls 47 to 49, 90, 91 and 93 to 95, which degrees, heading and sample have, are for the oracle over the Rust with the port's
 sine, cosine and angle in place.
 ";
 
 /// Each record of the script on standard input.
-fn each(mut call: impl FnMut(&record::Record) -> io::Result<()>) -> io::Result<()> {
+fn each(mut call: impl FnMut(&Record) -> io::Result<()>) -> io::Result<()> {
     let mut input = BufReader::with_capacity(1 << 16, io::stdin().lock());
     while let Some(r) = record::read(&mut input)? {
         call(&r)?;
@@ -64,20 +71,39 @@ fn number(args: &[String], i: usize) -> Option<u64> {
     args.get(i).map(|s| s.parse().expect("a whole number"))
 }
 
-fn make(args: &[String], out: &mut impl Write) {
-    let mut script = generate::Script {
-        random: random::Random(number(args, 2).expect("SEED")),
-        machine: machine::Machine::default(),
-        out: &mut |r, _, _| out.write_all(&record::to_bytes(r)).expect("written"),
-        quiet: number(args, 4).unwrap_or(1),
-        left: number(args, 3).expect("COUNT"),
+/// Writes each call of a script.
+fn into(out: &mut impl Write) -> impl FnMut(&Record, &Answer, &Machine) {
+    move |r, _, _| out.write_all(&record::to_bytes(r)).expect("written")
+}
+
+/// A script of so many calls from a seed, one in `quiet` printing its state.
+fn script<'a>(seed: u64, count: u64, quiet: u64, out: &'a mut generate::Out<'a>) -> generate::Script<'a> {
+    generate::Script {
+        random: random::Random(seed),
+        machine: Machine::default(),
+        out,
+        quiet,
+        left: count,
         stuck: 0,
         patience: 4,
         haste: 0,
         by_angles: 0,
         by_headings: 0,
-    };
-    script.make(&args[1]);
+    }
+}
+
+fn make(args: &[String], out: &mut impl Write) {
+    let (seed, count) = (number(args, 2).expect("SEED"), number(args, 3).expect("COUNT"));
+    script(seed, count, number(args, 4).unwrap_or(1), &mut into(out)).make(&args[1]);
+}
+
+/// What a party calls in the script on standard input, among other calls of the other.
+fn again(args: &[String], out: &mut impl Write) -> io::Result<()> {
+    let (me, seed) = (number(args, 1).expect("PARTY") as u32, number(args, 2).expect("SEED"));
+    let mut calls = Vec::new();
+    each(|r| Ok(calls.push(*r)))?;
+    script(seed, u64::MAX, 1, &mut into(out)).again(me, &calls);
+    Ok(())
 }
 
 fn run() -> io::Result<()> {
@@ -85,10 +111,11 @@ fn run() -> io::Result<()> {
     let mut out = BufWriter::with_capacity(1 << 16, io::stdout().lock());
     match args.first().map(String::as_str) {
         Some("run") => {
-            let mut machine = machine::Machine::default();
+            let mut machine = Machine::default();
             each(|r| writeln!(out, "{}", machine.line(r)))?;
         }
         Some("make") => make(&args, &mut out),
+        Some("again") => again(&args, &mut out)?,
         Some("cover") => {
             let mut cover = cover::Cover::default();
             each(|r| Ok(cover.call(r)))?;

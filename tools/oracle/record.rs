@@ -100,6 +100,11 @@ pub const CALLS: &[(u32, &str, &[Kind])] = &[
     (0x93, "ahrs.set_heading", &[F]),
     (0x94, "ahrs.update_external_heading", &[F; 7]),
     (0x95, "ahrs.update_no_magnetometer", &[F; 6]),
+    (0xA0, "table.fill", &[W, F, W, F, F, F, F, F]),
+    (0xA1, "party.start", &[W, F, W, F, F, F, F, F]),
+    (0xA2, "party.choose", &[W; 2]),
+    (0xA3, "party.rewrite", &[W, F, W, F, F, F, F, F]),
+    (0xA4, "party.update", &[W, F, F, F, F, F, F, F, F, F]),
 ];
 
 /// The calls that update the filter.

@@ -5,8 +5,8 @@ use super::record::quaternion_at;
 use super::record::vector_at;
 use super::said;
 use super::said::Said;
-use super::states::settings_words;
-use super::states::state_words;
+use super::states::with_settings;
+use super::states::with_state;
 use super::words::Words;
 use ahrs::Ahrs;
 use ahrs::Change;
@@ -20,6 +20,7 @@ use ahrs::read::QuaternionRead;
 use ahrs::read::SettingsRead;
 use ahrs::read::StatesRead;
 use ahrs::read::VectorRead;
+ghost use Prim.Native.Nat.{_<_};
 
 // The filter, once a start was accepted.
 pub(crate) enum Filter {
@@ -39,43 +40,46 @@ pub(crate) struct Answered {
     pub said: Said,
 }
 
-// With these two limits; what else there is of settings stands in the same words for either kind.
-fn settings_with(record: &[u8], acceleration: Limit, magnetic: Limit) -> Settings {
+// From word n on, with these two limits; what else there is of settings stands in the same words for either kind.
+fn settings_with(record: &[u8], n: usize, acceleration: Limit, magnetic: Limit) -> Settings
+    requires { ⌜ n < 10 ⌝ }
+{
     Settings {
-        sample_rate: float_at(record, 1),
-        convention: choice_at(record, 2),
-        gain: float_at(record, 3),
-        gyroscope_range: float_at(record, 4),
+        sample_rate: float_at(record, n),
+        convention: choice_at(record, n + 1),
+        gain: float_at(record, n + 2),
+        gyroscope_range: float_at(record, n + 3),
         acceleration_rejection: acceleration,
         magnetic_rejection: magnetic,
-        rejection_timeout: float_at(record, 7),
+        rejection_timeout: float_at(record, n + 6),
     }
+}
+
+// Settings with squared limits.
+pub(crate) fn squared_at(record: &[u8], n: usize) -> Settings
+    requires { ⌜ n < 10 ⌝ }
+{
+    let acceleration = Limit::Squared(float_at(record, n + 4));
+    let magnetic = Limit::Squared(float_at(record, n + 5));
+    settings_with(record, n, acceleration, magnetic)
 }
 
 // Words 5 and 6 are squared limits, but angles of calls 90 and 91. The angles of words 8 and 9 are for the Rust, which derives squared limits
 // from them.
 fn settings_at(record: &[u8], in_degrees: bool) -> Settings {
-    let acceleration = float_at(record, 5);
-    let magnetic = float_at(record, 6);
-    if in_degrees {
-        return settings_with(
-            record,
-            Limit::Degrees(acceleration),
-            Limit::Degrees(magnetic),
-        );
+    if !in_degrees {
+        return squared_at(record, 1);
     }
-    settings_with(
-        record,
-        Limit::Squared(acceleration),
-        Limit::Squared(magnetic),
-    )
+    let acceleration = Limit::Degrees(float_at(record, 5));
+    let magnetic = Limit::Degrees(float_at(record, 6));
+    settings_with(record, 1, acceleration, magnetic)
 }
 
 // The state as a line shows it; none before a start.
 pub(crate) fn words(filter: Filter) -> Words {
     match filter {
         Filter::Never => Words::none(),
-        Filter::At(ahrs) => state_words(ahrs),
+        Filter::At(ahrs) => with_state(Words::none(), ahrs),
     }
 }
 
@@ -181,7 +185,7 @@ fn counts_of(read: IgnoredRead) -> Said {
 
 fn settings_of(read: SettingsRead) -> Said {
     match read {
-        SettingsRead::Read(settings) => said::words(settings_words(settings)),
+        SettingsRead::Read(settings) => said::words(with_settings(Words::none(), settings)),
         SettingsRead::Refused(number) => said::number(number),
     }
 }

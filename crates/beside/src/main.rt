@@ -1,6 +1,7 @@
 // Answers the calls of standard input, a record of 64 bytes each, with a line each, to be held beside the Rust's. Any bytes are
 // answered: a record that is no call's, or cut short at the end, with `refused 1`.
 mod biases;
+mod feet;
 mod filters;
 mod lent;
 mod line;
@@ -16,6 +17,7 @@ mod vectors;
 mod words;
 
 use biases::Estimator;
+use feet::Feet;
 use filters::Filter;
 use line::Lines;
 use line::put_byte;
@@ -28,10 +30,11 @@ use said::Said;
 use verdict::Verdict;
 use words::Words;
 
-// The two states that calls change.
+// The three states that calls change.
 struct Machine {
     estimator: Estimator,
     filter: Filter,
+    feet: Feet,
 }
 
 // The states after a call, what it says, and the state to print behind it.
@@ -62,6 +65,7 @@ const BLOCK: usize = 4096;
 fn answer_bias(machine: Machine, call: u32, record: &[u8], quiet: bool) -> Answered {
     let before = machine.estimator;
     let filter = machine.filter;
+    let feet = machine.feet;
     let answered = biases::answer(before, call, record);
     let estimator = answered.estimator;
     let said = answered.said;
@@ -71,7 +75,11 @@ fn answer_bias(machine: Machine, call: u32, record: &[u8], quiet: bool) -> Answe
         biases::words(estimator)
     };
     Answered {
-        machine: Machine { estimator, filter },
+        machine: Machine {
+            estimator,
+            filter,
+            feet,
+        },
         said,
         shown,
     }
@@ -80,6 +88,7 @@ fn answer_bias(machine: Machine, call: u32, record: &[u8], quiet: bool) -> Answe
 fn answer_filter(machine: Machine, call: u32, record: &[u8], quiet: bool) -> Answered {
     let estimator = machine.estimator;
     let before = machine.filter;
+    let feet = machine.feet;
     let answered = filters::answer(before, call, record);
     let filter = answered.filter;
     let said = answered.said;
@@ -89,7 +98,34 @@ fn answer_filter(machine: Machine, call: u32, record: &[u8], quiet: bool) -> Ans
         filters::words(filter)
     };
     Answered {
-        machine: Machine { estimator, filter },
+        machine: Machine {
+            estimator,
+            filter,
+            feet,
+        },
+        said,
+        shown,
+    }
+}
+
+fn answer_feet(machine: Machine, call: u32, record: &[u8], quiet: bool) -> Answered {
+    let estimator = machine.estimator;
+    let filter = machine.filter;
+    let before = machine.feet;
+    let answered = feet::answer(before, call, record);
+    let feet = answered.feet;
+    let said = answered.said;
+    let shown = if quiet {
+        Words::none()
+    } else {
+        feet::words(feet, call, record)
+    };
+    Answered {
+        machine: Machine {
+            estimator,
+            filter,
+            feet,
+        },
         said,
         shown,
     }
@@ -114,6 +150,7 @@ fn answer(machine: Machine, record: &[u8]) -> Answered {
     match call {
         0x60..=0x6C => answer_bias(machine, call, record, quiet),
         0x80..=0x95 => answer_filter(machine, call, record, quiet),
+        0xA0..=0xA4 => answer_feet(machine, call, record, quiet),
         _ => Answered {
             machine,
             said: said_plainly(call, record),
@@ -222,6 +259,7 @@ fn main() {
     let mut machine = Machine {
         estimator: Estimator::Never,
         filter: Filter::Never,
+        feet: feet::none(),
     };
     let mut verdict = Verdict::none();
     let mut failed = false;

@@ -6,10 +6,10 @@ use ahrs::Rejection;
 use ahrs::Settings;
 
 // A limit is shown as the number that was given, squared or in degrees.
-pub(crate) fn settings_words(settings: Settings) -> Words {
+pub(crate) fn with_settings(words: Words, settings: Settings) -> Words {
     let acceleration = settings.acceleration_rejection;
     let magnetic = settings.magnetic_rejection;
-    Words::none()
+    words
         .float(settings.sample_rate)
         .word(settings.convention as u32)
         .float(settings.gain)
@@ -40,7 +40,7 @@ fn with_rejection(words: Words, rejection: Rejection) -> Words {
         .flag(rejection.ignored)
 }
 
-pub(crate) fn state_words(ahrs: Ahrs) -> Words {
+pub(crate) fn with_state(words: Words, ahrs: Ahrs) -> Words {
     let settings = ahrs.settings;
     let config = ahrs.config;
     let quaternion = ahrs.quaternion;
@@ -48,7 +48,7 @@ pub(crate) fn state_words(ahrs: Ahrs) -> Words {
     let axes = ahrs.overrange_recovery;
     let acceleration = ahrs.acceleration;
     let magnetic = ahrs.magnetic;
-    let words = with_config(settings_words(settings), config)
+    let words = with_config(with_settings(words, settings), config)
         .quaternion(quaternion)
         .vector(accelerometer)
         .flag(ahrs.startup)
