@@ -1,5 +1,6 @@
 // The bench: runs the root vectors of standard input and the rows of the bench table that are not proved, and prints a
 // line for each.
+mod boards;
 mod filter;
 mod locked;
 mod roots;
@@ -405,4 +406,5 @@ fn main() {
     print_locked_out();
     print_ends();
     print_overflow();
+    boards::print();
 }
