@@ -26,6 +26,11 @@ ROWS = (Row("update, called", "called", "update", "update"),
         Row("root, called, processor's root", "called-processor", "root", "root"),
         Row("sine, called", "called", "sine", "sine", same=False),
         Row("cosine, called", "called", "cosine", "cosine", same=False),
+        Row("set_settings, called", "called", "settings", "settings"),
+        Row("choose_lent, called", "called", "settings", "choose-lent"),
+        Row("rewrite_lent, called", "called", "rewrite", "rewrite-lent"),
+        Row("Foot::choose, called", "called", "settings", "choose"),
+        Row("Foot::rewrite, called", "called", "rewrite", "rewrite"),
         Row("record of playback, called", "called", "update", "playback", True),
         Row("record of playback, LTO", "lto", "update", "playback", True))
 

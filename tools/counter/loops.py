@@ -22,10 +22,12 @@ ROWS = (Row("update", "update", 10000), Row("bias reading", "reading", 10000), R
         Row("sine", "sine", 10000, False), Row("cosine", "cosine", 10000, False), Row("run of 1000 vectors", "turn", 120))
 HEADED = (Row("angle", "angle", 10000, False), Row("set_heading", "set-heading", 10000, False),
           Row("update_external_heading", "external-heading", 10000, False), Row("update_no_magnetometer", "no-magnetometer", 10000, False))
-# Each driver, and the files of crates/cost that its archive is without: `headings` has a second caller of the update, which keeps it from
-# being drawn into its own loop, and `once` one of update and reading, which keeps them functions. The first is of the whole crate, and
-# proves what the others stand on.
-DRIVERS = {"headed": ("headed.rs", ()), "called": ("driver.rs", ("headings",)), "inlined": ("driver.rs", ("headings", "once"))}
+CHOSEN = (Row("choice, by the owner", "choice", 10000), Row("rewrite, by the owner", "rewrite", 10000))
+# Each driver, and the files of crates/cost that its archive is without: `choices` and `headings` have other callers of the update, which
+# keep it from being drawn into its own loop, and `once` one of update and reading, which keeps them functions. The first is of the whole
+# crate, and proves what the others stand on.
+DRIVERS = {"chosen": ("chosen.rs", ()), "headed": ("headed.rs", ("choices",)), "called": ("driver.rs", ("choices", "headings")),
+           "inlined": ("driver.rs", ("choices", "headings", "once"))}
 
 
 def compiler():
@@ -147,4 +149,6 @@ def main(args):
             counted(counter, programs["called"], row)
     for row in HEADED:
         counted(counter, programs["headed"], row)
+    for row in CHOSEN:
+        counted(counter, programs["chosen"], row)
     replayed(counter, counts["update"])

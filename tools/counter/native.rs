@@ -75,7 +75,8 @@ fn and(sum: u32, x: f32) -> u32 {
 
 mod rust {
     use super::{Given, and};
-    use fusion_ahrs::{Ahrs, Bias, DEG_TO_RAD, Vector};
+    use fusion_ahrs::{Ahrs, AhrsSettings, Bias, DEG_TO_RAD, Vector};
+    use std::hint::black_box;
 
     pub fn update(given: &mut Given) -> u32 {
         let mut filter = Ahrs::with_settings(given.filter);
@@ -101,15 +102,42 @@ mod rust {
     pub fn cosine(given: &mut Given) -> u32 {
         given.angles.iter().fold(0, |sum, x| and(sum, libm::cosf(*x * DEG_TO_RAD)))
     }
+
+    /// The Rust has no table: eight settings stand beside the filter. An angle of 0 is no limit, so that no sine is worked out. What a
+    /// call leaves is seen from outside, so that no compiler drops it.
+    fn set(given: &Given, call: impl Fn(&mut Ahrs, &mut [AhrsSettings; 8], AhrsSettings)) -> u32 {
+        let mut filter = Ahrs::with_settings(given.filter);
+        let row =
+            |i| AhrsSettings { gain: given.squares[i], acceleration_rejection: 0.0, magnetic_rejection: 0.0, ..given.filter };
+        let rows: [AhrsSettings; 8] = std::array::from_fn(row);
+        let mut table = rows;
+        (0..given.records.len()).fold(0, |sum, i| {
+            call(&mut filter, &mut table, rows[i % 8]);
+            and(sum, black_box(&filter).settings().gain)
+        })
+    }
+
+    pub fn settings(given: &mut Given) -> u32 {
+        set(given, |filter, _, row| filter.set_settings(row))
+    }
+
+    pub fn rewrite(given: &mut Given) -> u32 {
+        set(given, |filter, table, row| {
+            black_box(table)[0] = row;
+            filter.set_settings(row);
+        })
+    }
 }
 
 mod port {
     use super::{Given, HEADER, and};
-    use gateweave::ahrs::{Ahrs, update_lent};
+    use gateweave::ahrs::{Ahrs, Limit, Settings, update_lent};
     use gateweave::answer::Answer;
     use gateweave::bias::{Bias, BiasSettings, Started};
     use gateweave::course::{Phase, begin};
+    use gateweave::table::{self, Foot, Party, Side, Table};
     use gateweave::vector::Vector;
+    use std::hint::black_box;
 
     fn filter(given: &Given) -> Ahrs {
         match begin(&given.log[..HEADER]) {
@@ -166,6 +194,42 @@ mod port {
         given.angles.iter().fold(0, |sum, x| and(sum, gateweave::trig::cos(*x)))
     }
 
+    /// Both parties, and the table that is lent to a call; a call is given the row's number too, and what it holds.
+    fn set(given: &Given, call: impl Fn(&mut Foot, &mut Table, u8, Settings)) -> u32 {
+        let (filter, limit) = (filter(given), Limit::Squared(f32::MAX));
+        let row =
+            |i| Settings { gain: given.squares[i], acceleration_rejection: limit, magnetic_rejection: limit, ..filter.settings };
+        let rows: [Settings; 8] = std::array::from_fn(row);
+        let mut foot = Foot { first: Party { filter, row: 0 }, second: Party { filter, row: 1 } };
+        let mut table = Table { rows };
+        (0..given.records.len()).fold(0, |sum, i| {
+            call(&mut foot, black_box(&mut table), (i % 8) as u8, rows[i % 8]);
+            and(sum, black_box(&foot).first.filter.settings.gain)
+        })
+    }
+
+    pub fn settings(given: &mut Given) -> u32 {
+        set(given, |foot, _, _, settings| foot.first.filter = foot.first.filter.set_settings(settings).state)
+    }
+
+    pub fn choose_lent(given: &mut Given) -> u32 {
+        set(given, |foot, table, row, _| foot.first = table::choose_lent(table, foot.first, row).party)
+    }
+
+    pub fn rewrite_lent(given: &mut Given) -> u32 {
+        set(given, |foot, table, _, settings| {
+            foot.first = table::rewrite_lent(table, foot.first, foot.second.row, settings).party;
+        })
+    }
+
+    pub fn choose(given: &mut Given) -> u32 {
+        set(given, |foot, table, row, _| *foot = foot.choose(table, Side::First, row).foot)
+    }
+
+    pub fn rewrite(given: &mut Given) -> u32 {
+        set(given, |foot, table, _, settings| *foot = foot.rewrite(table, Side::First, settings).foot)
+    }
+
     /// The whole log at once, of which nothing is left, so that the buffer is as it was.
     pub fn playback(given: &mut Given) -> u32 {
         let n = given.log.len();
@@ -180,12 +244,19 @@ fn bench(name: &str) -> Bench {
         "rust-root" => rust::root,
         "rust-sine" => rust::sine,
         "rust-cosine" => rust::cosine,
+        "rust-settings" => rust::settings,
+        "rust-rewrite" => rust::rewrite,
         "port-update" => port::update,
         "port-lent" => port::lent,
         "port-reading" => port::reading,
         "port-root" => port::root,
         "port-sine" => port::sine,
         "port-cosine" => port::cosine,
+        "port-settings" => port::settings,
+        "port-choose-lent" => port::choose_lent,
+        "port-rewrite-lent" => port::rewrite_lent,
+        "port-choose" => port::choose,
+        "port-rewrite" => port::rewrite,
         "port-playback" => port::playback,
         other => panic!("no bench {other}"),
     }
