@@ -25,5 +25,6 @@ pub record Determined : Type 0 where
   pub rewrite : (o : ℕ) (p : Party) (s : Settings) → One (Resettles o p s)
   -- the lent table afterwards, and the answer
   pub rewrite-lent : (t : Table) (o : ℕ) (p : Party) (s : Settings) → OneLent (Rewrites t o p s)
+  -- by the side of a foot, and by an owner, who promises the same
   pub foot-choose : (t : Table) (f : Foot) (side : Side) (row : ℕ) → One (FootChooses t f side row)
   pub foot-rewrite : (t : Table) (f : Foot) (side : Side) (s : Settings) → OneLent (FootRewrites t f side s)
