@@ -1,22 +1,36 @@
 -- The code's calls are the turns of a run: `Covered` and `Shows` hold. Assumes nothing.
 use Prim.Native.Nat.{ℕ}
 use mathlib.Core.Path.{_≡_, refl, sym, ap, ap₂, _∙_}
-use Rattle.answer.specs.Refusals.{refusalOf}
+use Rattle.answer.specs.Refusals.{refusalOf, accepted}
 use Rattle.answer.specs.Runs as runs
+use Rattle.settings.specs.declared.Settings.{Settings}
+use Rattle.settings.specs.Config.{settingsChecks}
 use Rattle.ahrs.specs.declared.Ahrs.{Ahrs}
 use Rattle.reached.specs.Runs.{Call, outlineOf}
 use Rattle.table.specs.declared.Table.{Table}
+use Rattle.table.specs.declared.Party.{Party}
+use Rattle.table.specs.declared.start.Started.{Started}
+use Rattle.table.specs.declared.start.Started.the-variants.{Fresh, Refused}
 use Rattle.table.specs.declared.foot.Foot.{Foot}
 use Rattle.table.specs.declared.foot.Side.{Side}
 use Rattle.table.specs.declared.foot.Side.the-variants.{First, Second}
 use Rattle.table.specs.declared.foot.Stood.{Stood}
-use Rattle.table.specs.Calls.{rowOf, settledOf, chooseChecks, sharedWith, rewriteChecks}
+use Rattle.table.specs.Calls.{freshParty, Starts, rowOf, settledOf, chooseChecks, sharedWith, rewriteChecks}
 use Rattle.table.specs.Sides.{partyOf, otherRow, withFilter, FootChooses, FootRewrites}
-use Rattle.settings.specs.declared.Settings.{Settings}
 use Rattle.table.proofs.Sides.{in-the-foot}
 use Rattle.apart.specs.Looks.{Look, shownOf, settings-read, quaternion-read, vector-read, flags-read, states-read, ignored-read}
 use Rattle.apart.specs.Turns.{call, look, choose, rewrite, told, shown}
 use Rattle.apart.specs.Covered.{turn, standing, Goes, numbered, Covered, Shows}
+
+-- the party of a start, where there is one
+abbrev startedOf : Party → Started → Party
+startedOf p (Fresh q) = q
+startedOf p (Refused n) = p
+
+started : (row : ℕ) (s : Settings) (p : Party) → Starts row s (Fresh p) → (refusalOf (settingsChecks s) ≡ 0) × (p ≡ freshParty row s)
+started row s p h =
+    let e = sym (h .number) in
+    (e, ap (startedOf p) (h .exact ∙ ap (λ (n : ℕ). accepted n (Fresh (freshParty row s)) (Refused n)) e))
 
 called
     : (side : Side) (f : Foot) (t : Table) (c : Call) (s : runs.Step Ahrs) → runs.stepOf outlineOf (partyOf side f .filter) c ≡ s
@@ -53,6 +67,7 @@ rewritten side f t t′ s r h =
 pub covered : Covered
 covered =
     record {
+      of-start = started;
       of-call = called;
       of-look = looked;
       of-choose = chosen;

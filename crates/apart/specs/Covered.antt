@@ -1,9 +1,11 @@
 -- The code's calls are the turns of a run: their promises say so.
 use Prim.Native.Nat.{ℕ}
 use mathlib.Core.Path.{_≡_}
+use Rattle.answer.specs.Refusals.{refusalOf}
 use Rattle.answer.specs.Runs as runs
 use Rattle.answer.specs.Runs.{number}
 use Rattle.settings.specs.declared.Settings.{Settings}
+use Rattle.settings.specs.Config.{settingsChecks}
 use Rattle.ahrs.specs.declared.Ahrs.{Ahrs}
 use Rattle.ahrs.specs.declared.read.SettingsRead.{SettingsRead}
 use Rattle.ahrs.specs.declared.read.QuaternionRead.{QuaternionRead}
@@ -17,10 +19,11 @@ use Rattle.reached.specs.Runs.{Call, outlineOf}
 use Rattle.table.specs.declared.Table.{Table}
 use Rattle.table.specs.declared.Party.{Party}
 use Rattle.table.specs.declared.Settled.{Settled}
+use Rattle.table.specs.declared.start.Started.the-variants.{Fresh}
 use Rattle.table.specs.declared.foot.Foot.{Foot}
 use Rattle.table.specs.declared.foot.Side.{Side}
 use Rattle.table.specs.declared.foot.Stood.{Stood}
-use Rattle.table.specs.Calls.{Chooses, Rewrites}
+use Rattle.table.specs.Calls.{freshParty, Starts, Chooses, Rewrites}
 use Rattle.table.specs.Sides.{partyOf, withFilter, FootChooses, FootRewrites}
 use Rattle.apart.specs.Looks.{Look, settings, quaternion, gravity, linear-acceleration, earth-acceleration, flags, internal-states, ignored-counts}
 use Rattle.apart.specs.Looks.{shownOf, settings-read, quaternion-read, vector-read, flags-read, states-read, ignored-read}
@@ -47,6 +50,8 @@ abbrev pub numbered : ℕ → Heard
 numbered n = told (number n)
 
 pub record Covered : Type 0 where
+  -- a start that is accepted gives the party that a run begins with
+  pub of-start : (row : ℕ) (s : Settings) (p : Party) → Starts row s (Fresh p) → (refusalOf (settingsChecks s) ≡ 0) × (p ≡ freshParty row s)
   -- a call of the filter is a step of its runs (`reached`), put back by `Foot::with_filter`
   pub of-call : (side : Side) (f : Foot) (t : Table) (c : Call) (s : runs.Step Ahrs) → runs.stepOf outlineOf (partyOf side f .filter) c ≡ s
       → Goes (standing f t) (turn side (call c)) (standing (withFilter side (s .state) f) t) (told (s .told))
