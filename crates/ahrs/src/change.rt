@@ -18,14 +18,14 @@ const LEAST_NORM_SQUARED: f32 = 0.25;
 const MOST_NORM_SQUARED: f32 = 4.0;
 
 // A start: the fresh state, or a refusal's number.
-#[derive(Drop)]
+#[derive(Clone, Copy)]
 pub enum Started {
     Fresh(Ahrs),
     Refused(u8),
 }
 
 // A call that only changes the state: the state, and 0 or a refusal's number.
-#[derive(Drop)]
+#[derive(Clone, Copy)]
 pub struct Change {
     pub state: Ahrs,
     pub number: u8,

@@ -1,4 +1,6 @@
 // The filter, by value: the Rust's ahrs.rs. A call takes the state and hands it back beside the answer.
+#![tactic(auto)]
+
 ghost use Rattle.std.specs.Prelude.{◌≡◌};
 ghost use Rattle.answer.specs.Refusals.{refusal_of};
 ghost use Rattle.ahrs.specs.Filter.{finite_state};
@@ -18,7 +20,7 @@ pub use lent::update_lent;
 pub use settings::{Axes, Config, Limit, Settings};
 pub use step::Rejection;
 
-#[derive(Drop)]
+#[derive(Clone, Copy)]
 pub struct Ahrs {
     pub settings: Settings,
     pub config: Config,
@@ -32,7 +34,7 @@ pub struct Ahrs {
 }
 
 // An update: the state, and the new orientation or a refusal.
-#[derive(Drop)]
+#[derive(Clone, Copy)]
 pub struct Reading {
     pub state: Ahrs,
     pub answer: Answer,

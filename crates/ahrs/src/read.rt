@@ -10,26 +10,26 @@ use settings::{Axes, Settings};
 use step::direction::calculate_half_gravity;
 use vector::Vector;
 
-#[derive(Drop)]
+#[derive(Clone, Copy)]
 pub enum SettingsRead {
     Read(Settings),
     Refused(u8),
 }
 
-#[derive(Drop)]
+#[derive(Clone, Copy)]
 pub enum QuaternionRead {
     Read(Quaternion),
     Refused(u8),
 }
 
-#[derive(Drop)]
+#[derive(Clone, Copy)]
 pub enum VectorRead {
     Read(Vector),
     Refused(u8),
 }
 
 // Overrange recovery shows the axes that went over last. It is on where they are not none.
-#[derive(Drop)]
+#[derive(Clone, Copy)]
 pub struct Flags {
     pub startup: bool,
     pub overrange_recovery: Axes,
@@ -37,14 +37,14 @@ pub struct Flags {
     pub magnetic_recovery: bool,
 }
 
-#[derive(Drop)]
+#[derive(Clone, Copy)]
 pub enum FlagsRead {
     Read(Flags),
     Refused(u8),
 }
 
 // The Rust's internal states without the error angles. A trigger is a fraction of the timeout.
-#[derive(Drop)]
+#[derive(Clone, Copy)]
 pub struct InternalStates {
     pub accelerometer_ignored: bool,
     pub acceleration_recovery_trigger: f32,
@@ -52,20 +52,20 @@ pub struct InternalStates {
     pub magnetic_recovery_trigger: f32,
 }
 
-#[derive(Drop)]
+#[derive(Clone, Copy)]
 pub enum StatesRead {
     Read(InternalStates),
     Refused(u8),
 }
 
 // How many updates in a row, up to now, have ignored each sensor. A reading of zeros is ignored too; the largest count stays.
-#[derive(Drop)]
+#[derive(Clone, Copy)]
 pub struct IgnoredCounts {
     pub accelerometer: u32,
     pub magnetometer: u32,
 }
 
-#[derive(Drop)]
+#[derive(Clone, Copy)]
 pub enum IgnoredRead {
     Read(IgnoredCounts),
     Refused(u8),

@@ -13,7 +13,7 @@ use step::rate::{half_angular_rate, integrate_quaternion, startup_gain};
 use vector::Vector;
 
 // What the two sensors leave, and the feedback of both.
-#[derive(Drop)]
+#[derive(Clone, Copy)]
 pub struct HalfFeedback {
     pub acceleration: Rejection,
     pub magnetic: Rejection,

@@ -1,4 +1,6 @@
 // The mounting as a matrix of 0, 1 and -1, a row for each body axis, and a vector turned by the ported product with it.
+#![tactic(auto)]
+
 ghost use Rattle.std.specs.Prelude.{◌≡◌};
 ghost use Rattle.answer.specs.Promises.{Answers};
 ghost use Rattle.vector.specs.Turned.{turn_checks, turned_answer};
@@ -10,7 +12,7 @@ use math::Matrix;
 use vector::Vector;
 
 // A mounting's matrix, or a refusal's number.
-#[derive(Drop)]
+#[derive(Clone, Copy)]
 pub enum MatrixRead {
     Read(Matrix),
     Refused(u8),

@@ -1,8 +1,10 @@
 // What a call that answers floats answers: the corrected rates, the turned vector or the new orientation, or a refusal's number.
+#![tactic(auto)]
+
 ghost use Rattle.std.specs.Prelude.{◌≡◌};
 ghost use Rattle.answer.specs.Answers.{number_of};
 
-#[derive(Drop)]
+#[derive(Clone, Copy)]
 pub enum Answer {
     Rates(f32, f32, f32),
     Turned(f32, f32, f32),

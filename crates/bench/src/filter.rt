@@ -5,20 +5,20 @@ use math::Quaternion;
 use vector::Vector;
 
 // A filter, or nothing where its settings are refused.
-#[derive(Drop)]
+#[derive(Clone, Copy)]
 pub(crate) enum Beginning {
     At(Ahrs),
     Never,
 }
 
-#[derive(Drop)]
+#[derive(Clone, Copy)]
 pub(crate) enum Sensor {
     Accelerometer,
     Compass,
 }
 
 // What is shown of a sensor's rejection: whether the last update ignored it, its recovery flag, and its trigger as a fraction of the timeout.
-#[derive(Drop)]
+#[derive(Clone, Copy)]
 pub(crate) struct Standing {
     pub ignored: bool,
     pub flag: bool,
@@ -122,7 +122,7 @@ pub(crate) fn stays_in_startup(settings: Settings, updates: u32) -> bool {
 }
 
 // The half residual of the first update out of startup, and whether the accelerometer was ignored.
-#[derive(Drop)]
+#[derive(Clone, Copy)]
 pub(crate) struct Verdict {
     pub residual: Vector,
     pub ignored: bool,

@@ -7,7 +7,7 @@ use vector::Vector;
 const MOST: u32 = 10000;
 
 // The state after the last reading that is ignored, the first that is used, the last good one in recovery, and the one that ends it.
-#[derive(Drop)]
+#[derive(Clone, Copy)]
 pub(crate) struct Story {
     pub locked_out: Ahrs,
     pub begun: Ahrs,

@@ -1,5 +1,7 @@
 // The bench: runs the root vectors of standard input and the rows of the bench table that are not proved, and prints a
 // line for each.
+#![tactic(auto)]
+
 mod boards;
 mod filter;
 mod locked;

@@ -8,7 +8,7 @@ use libc::STDIN_FILENO;
 // More vectors than this are not read.
 const MOST: u64 = 0xffff_ffff_ffff_ffff;
 
-#[derive(Drop)]
+#[derive(Clone, Copy)]
 pub struct Tally {
     pub read: u64,
     pub wrong: u64,

@@ -5,7 +5,7 @@ use bias::reads::ActiveRead;
 use bias::{Bias, BiasSettings, Started};
 use vector::Vector;
 
-#[derive(Drop)]
+#[derive(Clone, Copy)]
 pub struct Still {
     pub active: u32,
     pub moves: u32,

@@ -7,21 +7,21 @@ use bias::reads::{ActiveRead, OffsetRead, SettingsRead};
 use bias::{Bias, BiasSettings, Change, Reading, Started};
 
 // The estimator, once a start was accepted.
-#[derive(Drop)]
+#[derive(Clone, Copy)]
 pub(crate) enum Estimator {
     Never,
     At(Bias),
 }
 
 // The state after a call, and what the call says.
-#[derive(Drop)]
+#[derive(Clone, Copy)]
 struct Step {
     state: Bias,
     said: Said,
 }
 
 // The same, where there may be no state.
-#[derive(Drop)]
+#[derive(Clone, Copy)]
 pub(crate) struct Answered {
     pub estimator: Estimator,
     pub said: Said,

@@ -9,14 +9,14 @@ use ahrs::{Limit, Settings};
 use table::{Foot, Party, Side, Started, Table};
 
 // A party, once a start of it was accepted.
-#[derive(Drop)]
+#[derive(Clone, Copy)]
 enum Place {
     Never,
     At(Party),
 }
 
 // The third state that calls change.
-#[derive(Drop)]
+#[derive(Clone, Copy)]
 pub(crate) struct Feet {
     table: Table,
     first: Place,
@@ -24,7 +24,7 @@ pub(crate) struct Feet {
 }
 
 // The state after a call, and what the call says.
-#[derive(Drop)]
+#[derive(Clone, Copy)]
 pub(crate) struct Answered {
     pub feet: Feet,
     pub said: Said,

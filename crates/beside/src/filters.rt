@@ -10,21 +10,21 @@ use ahrs::read::{FlagsRead, IgnoredRead, QuaternionRead, SettingsRead, StatesRea
 use ahrs::{Ahrs, Change, Limit, Reading, Settings, Started};
 
 // The filter, once a start was accepted.
-#[derive(Drop)]
+#[derive(Clone, Copy)]
 pub(crate) enum Filter {
     Never,
     At(Ahrs),
 }
 
 // The state after a call, and what the call says.
-#[derive(Drop)]
+#[derive(Clone, Copy)]
 struct Step {
     state: Ahrs,
     said: Said,
 }
 
 // The same, where there may be no state.
-#[derive(Drop)]
+#[derive(Clone, Copy)]
 pub(crate) struct Answered {
     pub filter: Filter,
     pub said: Said,

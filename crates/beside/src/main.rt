@@ -1,5 +1,7 @@
 // Answers the calls of standard input, a record of 64 bytes each, with a line each, to be held beside the Rust's. Any bytes are
 // answered: a record that is no call's, or cut short at the end, with `refused 1`.
+#![tactic(auto)]
+
 mod biases;
 mod feet;
 mod filters;
@@ -26,7 +28,7 @@ use verdict::Verdict;
 use words::Words;
 
 // The three states that calls change.
-#[derive(Drop)]
+#[derive(Clone, Copy)]
 struct Machine {
     estimator: Estimator,
     filter: Filter,
@@ -34,7 +36,7 @@ struct Machine {
 }
 
 // The states after a call, what it says, and the state to print behind it.
-#[derive(Drop)]
+#[derive(Clone, Copy)]
 struct Answered {
     machine: Machine,
     said: Said,
@@ -42,7 +44,7 @@ struct Answered {
 }
 
 // The states after some calls, and the place behind their lines.
-#[derive(Drop)]
+#[derive(Clone, Copy)]
 struct Printed {
     machine: Machine,
     at: usize,
@@ -50,7 +52,7 @@ struct Printed {
 
 // The states after a block, what its lines and those before say of the run, and whether to read on; where a read or a write has
 // failed nothing more is printed.
-#[derive(Drop)]
+#[derive(Clone, Copy)]
 struct Turn {
     machine: Machine,
     verdict: Verdict,

@@ -7,7 +7,7 @@ use remap::MountingRead;
 use trig::Number;
 use vector::Vector;
 
-#[derive(Drop)]
+#[derive(Clone, Copy)]
 pub(crate) struct Said {
     pub number: u8,
     pub words: Words,

@@ -4,7 +4,7 @@ use vector::Vector;
 
 pub(crate) const MOST: usize = 64;
 
-#[derive(Drop)]
+#[derive(Clone, Copy)]
 pub(crate) struct Words {
     pub n: usize,
     pub all: [u32; 64],

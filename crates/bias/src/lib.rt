@@ -1,4 +1,6 @@
 // The gyroscope's bias estimator, by value: the Rust's bias.rs. A call takes the state and hands it back beside the answer.
+#![tactic(auto)]
+
 ghost use Rattle.std.specs.Prelude.{◌≡◌};
 ghost use Rattle.answer.specs.Refusals.{refusal_of};
 ghost use Rattle.bias.specs.Settings.{finite_settings};
@@ -15,7 +17,7 @@ pub mod reads; // reads.rt: settings, offset, is_active
 
 pub use lent::update_lent;
 
-#[derive(Drop)]
+#[derive(Clone, Copy)]
 pub struct BiasSettings {
     pub sample_rate: f32,
     pub stationary_threshold: f32,
@@ -23,7 +25,7 @@ pub struct BiasSettings {
     pub cutoff_frequency: f32,
 }
 
-#[derive(Drop)]
+#[derive(Clone, Copy)]
 pub struct Bias {
     pub settings: BiasSettings,
     pub filter_coefficient: f32,
@@ -33,28 +35,28 @@ pub struct Bias {
 }
 
 // A start: the fresh estimator, or a refusal's number.
-#[derive(Drop)]
+#[derive(Clone, Copy)]
 pub enum Started {
     Fresh(Bias),
     Refused(u8),
 }
 
 // A reading: the state, and the corrected rates or a refusal.
-#[derive(Drop)]
+#[derive(Clone, Copy)]
 pub struct Reading {
     pub state: Bias,
     pub answer: Answer,
 }
 
 // A call that only changes the state: the state, and 0 or a refusal's number.
-#[derive(Drop)]
+#[derive(Clone, Copy)]
 pub struct Change {
     pub state: Bias,
     pub number: u8,
 }
 
 // What is worked out from the settings.
-#[derive(Drop)]
+#[derive(Clone, Copy)]
 pub struct Derived {
     pub filter_coefficient: f32,
     pub timeout: u32,

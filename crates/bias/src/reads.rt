@@ -4,19 +4,19 @@ ghost use Rattle.bias.specs.Calls.{SettingsReads, OffsetReads, ActiveReads};
 use super::{Bias, BiasSettings};
 use vector::Vector;
 
-#[derive(Drop)]
+#[derive(Clone, Copy)]
 pub enum SettingsRead {
     Read(BiasSettings),
     Refused(u8),
 }
 
-#[derive(Drop)]
+#[derive(Clone, Copy)]
 pub enum OffsetRead {
     Read(Vector),
     Refused(u8),
 }
 
-#[derive(Drop)]
+#[derive(Clone, Copy)]
 pub enum ActiveRead {
     Read(bool),
     Refused(u8),

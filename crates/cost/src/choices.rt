@@ -6,7 +6,7 @@ use ahrs::{Ahrs, Limit, Settings, Started};
 use table::{Foot, Party, Side, Table, choose_owned, rewrite_owned};
 
 // What a loop carries: both parties, the table, and the sum of the gains that were set.
-#[derive(Drop)]
+#[derive(Clone, Copy)]
 struct Kept {
     foot: Foot,
     table: Table,

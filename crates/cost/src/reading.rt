@@ -3,7 +3,7 @@ use super::{READINGS, row, vector_at};
 use answer::Answer;
 use bias::{Bias, BiasSettings, Started};
 
-#[derive(Drop)]
+#[derive(Clone, Copy)]
 pub(crate) struct Learnt {
     pub(crate) state: Bias,
     pub(crate) sum: u32,

@@ -1,4 +1,6 @@
 // Runs the vectors of standard input through the calls of `trig`, and prints of each kind how many were read and how many were answered wrong.
+#![tactic(auto)]
+
 mod vectors; // vectors.rt: what a vector says, and whether an answer is right
 
 ghost use Rattle.std.specs.Prelude.{◌<◌};
@@ -9,7 +11,7 @@ use libc::{STDIN_FILENO, STDOUT_FILENO};
 const MOST: u64 = 0xffff_ffff_ffff_ffff;
 
 // By kind, as `vectors::kind` numbers them.
-#[derive(Drop)]
+#[derive(Clone, Copy)]
 struct Tally {
     read: [u64; 5],
     wrong: [u64; 5],

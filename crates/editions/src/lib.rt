@@ -1,5 +1,7 @@
 // The offset record in two editions: the 18 bytes of `offset`, and 34 bytes with the estimator's settings behind them. A record is moved from
 // one to the other, and restored from either.
+#![tactic(auto)]
+
 pub mod moving; // moving.rt: move_up, move_down
 pub mod restoring; // restoring.rt: restore
 
@@ -12,7 +14,7 @@ pub use moving::{move_down, move_up};
 pub use restoring::restore;
 
 // An edition: how many bytes its records have, their version, and whether settings stand behind the offset's part.
-#[derive(Drop)]
+#[derive(Clone, Copy)]
 struct Edition {
     size: usize,
     version: u16,

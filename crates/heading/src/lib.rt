@@ -1,4 +1,6 @@
 // Headings without a compass: one that is set, an update with one from elsewhere, and an update with none. Angles stay in degrees.
+#![tactic(auto)]
+
 ghost use Rattle.std.specs.Prelude.{◌≡◌};
 ghost use Rattle.answer.specs.Refusals.{refusal_of};
 ghost use Rattle.heading.specs.Calls.{heading_checks, given_checks, SetsHeading, UpdatesHeading, UpdatesUnaided};

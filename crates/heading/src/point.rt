@@ -4,7 +4,7 @@ ghost use Rattle.heading.specs.Turn.{finite_point, angle_at, yaw_of, roll_of};
 
 use math::Quaternion;
 
-#[derive(Drop)]
+#[derive(Clone, Copy)]
 pub(crate) struct Point {
     y: f32,
     x: f32,

@@ -1,6 +1,8 @@
 // The mountings program without its reads and writes. A line of input is two names with one space between; what is
 // printed for it is the name of "first then second", or a refusal. The bytes are fed one by one, so that where the
 // input is cut into parts changes nothing.
+#![tactic(auto)]
+
 ghost use Rattle.std.specs.Prelude.{◌≡◌, ◌+◌, ◌≤◌, length};
 ghost use Rattle.text.specs.Putting.{Puts};
 ghost use Rattle.lines.specs.Rule.{answer_of, both_of, text_of, line_text};
@@ -11,14 +13,14 @@ ghost use Rattle.lines.specs.Inner.{Printable, Takes};
 use remap::MountingRead;
 
 // The bytes of a line that is not ended, at most 13 of them; n is how many came, 14 for any more.
-#[derive(Drop)]
+#[derive(Clone, Copy)]
 pub struct Line {
     pub n: usize,
     pub text: [u8; 13],
 }
 
 // The line that is not ended, how many bytes are to be printed, and the refusal's number.
-#[derive(Drop)]
+#[derive(Clone, Copy)]
 pub struct Fed {
     pub line: Line,
     pub n: usize,

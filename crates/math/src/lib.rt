@@ -1,4 +1,6 @@
 // Matrices and quaternions of f32, by value, in the Rust's operation order. They refuse nothing and follow IEEE 754.
+#![tactic(auto)]
+
 pub mod matrix; // matrix.rt
 pub mod quaternion; // quaternion.rt
 

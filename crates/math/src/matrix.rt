@@ -4,7 +4,7 @@ ghost use Rattle.math.specs.Matrices.{identity_matrix, eq_of, from_rows_of, to_r
 
 use vector::Vector;
 
-#[derive(Drop)]
+#[derive(Clone, Copy)]
 pub struct Matrix {
     pub xx: f32,
     pub xy: f32,

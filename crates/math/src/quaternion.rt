@@ -6,7 +6,7 @@ ghost use Rattle.math.specs.Quaternions.{norm_of, normalize_of, to_matrix_of, ro
 use super::matrix::Matrix;
 use vector::Vector;
 
-#[derive(Drop)]
+#[derive(Clone, Copy)]
 pub struct Quaternion {
     pub w: f32,
     pub x: f32,

@@ -82,6 +82,8 @@ zero_most {n} {x} z = record { within = go x z }
   where
     go : (x : Float) → Zero x → Within n x
     go (fin s m e) z = rw z (simp zero-mul (omega arith))
+    go nan z = elim z [ ]
+    go (inf _) z = elim z [ ]
 
 -- in units of the smallest
 pub units_most : {n : ℕ} {x : Float} {s : Bool} {a : ℕ} → Units x s a → a ≤ n * 2 ^ 149 → AtMost n x

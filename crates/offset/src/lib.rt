@@ -1,5 +1,7 @@
 // The 18-byte record of a gyroscope offset: written, read, and restored into the bias estimator under any mounting.
 // A zero stands in it with a plus sign, so that one offset has one record.
+#![tactic(auto)]
+
 pub mod restoring; // restoring.rt: restore
 
 ghost use Rattle.std.specs.Prelude.{◌≡◌, length};
@@ -17,14 +19,14 @@ pub const LENGTH: usize = 18;
 pub const VERSION: u16 = 1;
 
 // An offset, in the frame of a mounting.
-#[derive(Drop)]
+#[derive(Clone, Copy)]
 pub struct Offset {
     pub mounting: u8,
     pub vector: Vector,
 }
 
 // What a record holds, or a refusal's number.
-#[derive(Drop)]
+#[derive(Clone, Copy)]
 pub enum RecordRead {
     Read(Offset),
     Refused(u8),

@@ -1,15 +1,17 @@
 // The two counts of one sensor's rejection, and what a reading does to them: the whole-number part of the Rust's `Rejection`.
+#![tactic(auto)]
+
 ghost use Rattle.std.specs.Prelude.{◌≡◌};
 ghost use Rattle.rejection.specs.Counts.{reset_of, moved_of, updated_of, recovery_of};
 
-#[derive(Drop)]
+#[derive(Clone, Copy)]
 pub struct Counts {
     pub trigger: i32,
     pub threshold: i32,
 }
 
 // The counts after a reading, and whether its residual is used.
-#[derive(Drop)]
+#[derive(Clone, Copy)]
 pub struct Updated {
     pub counts: Counts,
     pub used: bool,

@@ -1,4 +1,6 @@
 // Mountings: their names, one after another, undone, and a vector turned by one.
+#![tactic(auto)]
+
 pub mod names; // names.rt: write_name, read_name
 pub mod table; // table.rt: compose, inverse
 
@@ -12,7 +14,7 @@ pub use table::{compose, inverse};
 use vector::Vector;
 
 // A mounting's number, or a refusal's.
-#[derive(Drop)]
+#[derive(Clone, Copy)]
 pub enum MountingRead {
     Number(u8),
     Refused(u8),

@@ -1,19 +1,21 @@
 // Replays and reports stored logs, each whole, byte by byte, and cut once at every place: prints its name and its lines, and whether they
 // are the same however it is cut. A log stands in the input behind a name of 32 bytes and its length, 16 bits.
+#![tactic(auto)]
+
 ghost use Rattle.std.specs.Prelude.{◌<◌, length};
 
 use course::Phase;
 use tally::Tally;
 
 // What reads a log: its replay, or its report, in which so many records are counted.
-#[derive(Drop)]
+#[derive(Clone, Copy)]
 enum Machine {
     Replay(Phase),
     Report(u32, Tally),
 }
 
 // The machine after some bytes, how many of them are left, and how many they printed.
-#[derive(Drop)]
+#[derive(Clone, Copy)]
 struct Run {
     machine: Machine,
     left: usize,

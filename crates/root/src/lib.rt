@@ -1,5 +1,7 @@
 // The root of an f32, correctly rounded, by a search over whole significands. The bits from 1 to
 // 0x7f7f_ffff are those of the finite numbers above zero, 0x7f80_0000 those of plus infinity.
+#![tactic(auto)]
+
 ghost use Rattle.std.specs.Prelude.{◌≡◌, ◌<◌, ◌≤◌, ◌*◌, ◌/◌, ◌^◌};
 ghost use Rattle.root.specs.Root.{nearest_root_of, significand_of, exponent_of, squared_of, root_bits_of, sqrt_of, Root};
 

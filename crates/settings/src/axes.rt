@@ -2,7 +2,7 @@
 ghost use Rattle.std.specs.Prelude.{◌≡◌};
 ghost use Rattle.settings.specs.Axes.{any_of};
 
-#[derive(Drop)]
+#[derive(Clone, Copy)]
 pub struct Axes {
     pub x: bool,
     pub y: bool,

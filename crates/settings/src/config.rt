@@ -8,7 +8,7 @@ use super::{Axes, Limit, Settings};
 use vector::Vector;
 
 // What is derived from the settings.
-#[derive(Drop)]
+#[derive(Clone, Copy)]
 pub struct Config {
     pub sample_period: f32,
     pub gain: f32,

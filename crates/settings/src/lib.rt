@@ -1,4 +1,6 @@
 // The settings of the filter, what is derived from them, and which of them are refused.
+#![tactic(auto)]
+
 pub mod axes; // axes.rt: a set of axes
 pub mod config; // config.rt: what is derived, and the tests
 pub mod limit; // limit.rt: the limit of a sensor, squared or in degrees
@@ -8,7 +10,7 @@ pub use config::Config;
 pub use limit::Limit;
 
 // The convention is 0 for NWU, 1 for ENU, 2 for NED. Each of the two limits is the Rust's angle, or the squared limit that it stands for.
-#[derive(Drop)]
+#[derive(Clone, Copy)]
 pub struct Settings {
     pub sample_rate: f32,
     pub convention: u8,

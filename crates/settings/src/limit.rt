@@ -3,7 +3,7 @@ ghost use Rattle.std.specs.Prelude.{◌≡◌};
 ghost use Rattle.settings.specs.Limit.{given_of, finite_limit, sound_limit, squared_of};
 
 // A squared half residual, or the Rust's angle in degrees.
-#[derive(Drop)]
+#[derive(Clone, Copy)]
 pub enum Limit {
     Squared(f32),
     Degrees(f32),

@@ -1,4 +1,6 @@
 // The rules of one update, each over the values that it reads: no state, and nothing refused.
+#![tactic(auto)]
+
 use vector::Vector;
 
 pub mod direction; // direction.rt: where gravity and west lie
@@ -8,7 +10,7 @@ pub mod sensor; // sensor.rt: one sensor's rejection
 pub use settings::{Config, Settings};
 
 // One sensor's rejection, and how many updates in a row, up to now, have ignored the sensor.
-#[derive(Drop)]
+#[derive(Clone, Copy)]
 pub struct Rejection {
     pub half_residual: Vector,
     pub recovery_trigger: i32,

@@ -10,7 +10,7 @@ use vector::Vector;
 const DEG_TO_RAD: f32 = 0.017453292;
 
 // What startup leaves, and the gain to apply.
-#[derive(Drop)]
+#[derive(Clone, Copy)]
 pub struct Startup {
     pub startup: bool,
     pub startup_gain: f32,

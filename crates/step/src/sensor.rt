@@ -8,7 +8,7 @@ use rejection::Counts;
 use vector::Vector;
 
 // A sensor's next rejection, and the feedback to apply, scaled by 0.5.
-#[derive(Drop)]
+#[derive(Clone, Copy)]
 pub struct Feedback {
     pub rejection: Rejection,
     pub half_feedback: Vector,

@@ -5,20 +5,20 @@ ghost use Rattle.table.specs.Sides.{party_of, other_row, with_party, with_filter
 use super::{Party, Settled, Table, choose_lent, rewrite_lent};
 use ahrs::{Ahrs, Settings};
 
-#[derive(Drop)]
+#[derive(Clone, Copy)]
 pub enum Side {
     First,
     Second,
 }
 
-#[derive(Drop)]
+#[derive(Clone, Copy)]
 pub struct Foot {
     pub first: Party,
     pub second: Party,
 }
 
 // The foot after a choice or a rewrite, and 0 or a refusal's number.
-#[derive(Drop)]
+#[derive(Clone, Copy)]
 pub struct Stood {
     pub foot: Foot,
     pub number: u8,

@@ -1,4 +1,6 @@
 // A second board in the foot: two parties, each a filter and the number of the row that it uses, and one table of eight rows of settings.
+#![tactic(auto)]
+
 ghost use Rattle.std.specs.Prelude.{◌%◌, ◌≡◌};
 
 use ahrs::{Ahrs, Settings};
@@ -15,20 +17,20 @@ pub use owned::{Owned, choose_owned, rewrite_owned};
 pub use start::Started;
 
 // Eight rows of settings, of any numbers: a row is judged when it is chosen.
-#[derive(Drop)]
+#[derive(Clone, Copy)]
 pub struct Table {
     pub rows: [Settings; 8],
 }
 
 // A filter, and the row that it uses.
-#[derive(Drop)]
+#[derive(Clone, Copy)]
 pub struct Party {
     pub filter: Ahrs,
     pub row: u8,
 }
 
 // The party after a choice or a rewrite, and 0 or a refusal's number.
-#[derive(Drop)]
+#[derive(Clone, Copy)]
 pub struct Settled {
     pub party: Party,
     pub number: u8,

@@ -6,7 +6,7 @@ use super::foot::{Foot, Side, Stood};
 use ahrs::Settings;
 
 // The table after a rewrite by its owner, and what that gives.
-#[derive(Drop)]
+#[derive(Clone, Copy)]
 pub struct Owned {
     pub table: Table,
     pub stood: Stood,

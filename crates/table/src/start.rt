@@ -5,7 +5,7 @@ use super::Party;
 use ahrs::{Ahrs, Settings};
 
 // The party, or a refusal's number.
-#[derive(Drop)]
+#[derive(Clone, Copy)]
 pub enum Started {
     Fresh(Party),
     Refused(u8),

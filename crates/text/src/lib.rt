@@ -1,4 +1,6 @@
 // What the programs print: a word as eight hexadecimal digits, a whole number in decimal, a name with its number, and the line of a refusal.
+#![tactic(auto)]
+
 mod words; // words.rt: a line of four words
 
 ghost use Rattle.std.specs.Prelude.{◌≡◌, ◌%◌};

@@ -1,11 +1,13 @@
 // Replays stored logs, each whole, byte by byte, and cut once at every place: prints its name and its lines, and whether they are
 // the same however it is cut. A log stands in the input behind a name of 32 bytes and its length, 16 bits.
+#![tactic(auto)]
+
 ghost use Rattle.std.specs.Prelude.{◌<◌, length};
 
 use course::Phase;
 
 // The phase after some bytes, how many of them are left, and how many they printed.
-#[derive(Drop)]
+#[derive(Clone, Copy)]
 struct Run {
     phase: Phase,
     left: usize,

@@ -8,7 +8,7 @@ ghost use Rattle.trig.specs.Calls.{angle_checks, Gives, AnswersNear, GivesAngle,
 use super::{point, wave};
 
 // A number that was worked out, or a refusal's.
-#[derive(Drop)]
+#[derive(Clone, Copy)]
 pub enum Number {
     Value(f32),
     Refused(u8),

@@ -1,4 +1,6 @@
 // Sine and cosine of degrees, the squared limit of a rejection angle, and the angle of a point, held to an exact reference over whole numbers.
+#![tactic(auto)]
+
 pub mod calls; // calls.rt: Number, sin_degrees, cos_degrees, angle_degrees
 pub mod fixed; // fixed.rt: the series in fixed point
 pub mod limit; // limit.rt: rejection_threshold

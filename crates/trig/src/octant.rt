@@ -22,7 +22,7 @@ const OFF: u64 = 352 * TANGENT_ONE;
 const HALVINGS: u64 = 22;
 
 // The angle lies from lo to hi.
-#[derive(Drop)]
+#[derive(Clone, Copy)]
 pub(crate) struct Span {
     lo: u64,
     hi: u64,

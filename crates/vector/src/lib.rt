@@ -1,4 +1,6 @@
 // A vector of three f32: the Rust's math/vector.rs, its operators as named methods.
+#![tactic(auto)]
+
 pub mod turned; // turned.rt: a vector turned by a mounting, which alone refuses
 
 ghost use Rattle.std.specs.Prelude.{◌≡◌};
@@ -7,7 +9,7 @@ ghost use Rattle.vector.specs.Vectors.{norm_squared_of, norm_of, normalize_of, a
 
 pub use turned::axes_of;
 
-#[derive(Drop)]
+#[derive(Clone, Copy)]
 pub struct Vector {
     pub x: f32,
     pub y: f32,

@@ -1,10 +1,12 @@
 // What the lines of a program say of its run: how many there are, and the first that is a refusal. A program has no exit status,
 // so it names that refusal on standard error, and ./gateweave makes the status of it.
+#![tactic(auto)]
+
 ghost use Rattle.std.specs.Prelude.{◌≡◌, not, eqb};
 ghost use Rattle.verdict.specs.Verdict.{no_verdict, next_of, digit_of, byte_of, verdict_of, is_refused};
 
 // The lines that have ended; the first that is a refusal, and its number, both 0 where there is none; whether the number has ended.
-#[derive(Drop)]
+#[derive(Clone, Copy)]
 pub struct Verdict {
     pub lines: u64,
     pub line: u64,

@@ -2,6 +2,8 @@
 //
 // Every function is total: a byte past the end reads as 0, and a store past the end changes nothing.
 // Any pattern becomes a float, every NaN's the one NaN; a reader that refuses by the bits asks `is_finite_bits`.
+#![tactic(auto)]
+
 ghost use Rattle.std.specs.Prelude.{◌≡◌, ◌+◌, ◌<◌, get_or, set};
 ghost use Rattle.std.specs.Float.{binary32};
 ghost use Rattle.std.specs.Float.Ieee.{nan_bits};
