@@ -30,6 +30,8 @@ same_nought : (f : Format) (x : Float) → T (fits f x) → Zero x → Same x no
 unfolding fits plain
 same_nought f (fin s zero e) t z = record { number = ap (λ (d : ℤ). fin false 0 d) (flat e (eqb→eq (up e * down e) 1 t)) }
 same_nought f (fin s (suc m) e) t z = absurd (omega arith)
+same_nought f nan t z = elim z [ ]
+same_nought f (inf _) t z = elim z [ ]
 
 -- ---- products
 

@@ -37,6 +37,8 @@ factor (suc m) p P e = let h = mul-pos (zero-lt-suc m) P in absurd (omega arith)
 
 zero_units : (x : Float) {s : Bool} {a : ℕ} → Units x s a → Zero x → a ≡ 0
 zero_units (fin t m e) {s} {a} u z = factor a (down e) (down_pos e) (sym u.value.1 ∙ rw z (simp zero-mul))
+zero_units nan {s = s} {a = a} u z = elim z [ ]
+zero_units (inf _) {s = s} {a = a} u z = elim z [ ]
 
 units_zero : (x : Float) {s : Bool} {a : ℕ} → Units x s a → a ≡ 0 → Zero x
 units_zero nan u z = u.value
