@@ -1,5 +1,4 @@
 -- `root::sqrtf` meets its contract: a float above zero is the infinity or has the bits of a finite number, and the others are the zeros, the
--- negatives and NaN. Assumes nothing.
 use mathlib.Core.Path.{◌≡◌, refl, sym, ap, ◌∙◌, subst}
 use mathlib.Core.Bool.{Bool, true, false, not, ◌&&◌, true≢false, false≢true}
 use Prim.Native.Nat.{ℕ, zero, suc, ◌*◌, ◌≤◌, ◌<◌}
@@ -14,8 +13,7 @@ use Rattle.root.specs.Root.{sqrt_of, root_bits_of, Root}
 use Rattle.root.proofs.Nearest.{nearest}
 use Rattle.root.proofs.Scaled.{Finite, root_bits_range}
 use Rattle.root.proofs.Patterns.{bits_lt, bits_pos, no_nan_bits}
-use Rattle.root.proofs.sqrtf.Statement.{statement}
-use Rattle.root.proofs.sqrtf.Tie as tie
+use Rattle.root.proofs.sqrtf.Goals as goal
 
 data Above : Float → Type 0 where
   infinite : Above (inf false)
@@ -93,25 +91,35 @@ the_rest (fin false (suc m) e) h k = absurd (some_below m (up e) (down e) (up_po
 both : (x : Float) {r : Float} → fits binary32 x ≡ true → r ≡ sqrt_of x → (r ≡ sqrt_of x) × Root x r
 both x f e = (e, subst (Root x) (sym e) (nearest x (rw f tt)))
 
-at : (c : tie.Then2) → Finite (to_bits binary32 c.before.before.args.x)
-at c = in_range (above _ c.before.if1.true) c.before.before.well-formed.0.1 (omega (arith, c.if2.true))
+pub float_to_bits-b : goal.float_to_bits-b
+float_to_bits-b c = no_nan (above _ c.if-x.true)
 
-returns : tie.Need-returns
-returns c =
-    both c.before.before.before.args.x c.before.before.before.well-formed.0.1
-    (ap (of_bits binary32) c.root-bits.ensures ∙ the_root (above _ c.before.before.if1.true) (omega (arith, c.before.if2.true)))
+pub root_bits-requires : goal.root_bits-requires
+root_bits-requires c =
+    let at : Finite (to_bits binary32 c.args.x) = in_range (above _ c.if-x.true) c.well_formed.0.1 (omega (arith, c.if-b-lt2139095040.true)) in
+    at
 
-returns-2 : tie.Need-returns-2
-returns-2 c =
-    both c.before.before.args.x c.before.before.well-formed.0.1
-    (the_infinity (above _ c.before.if1.true) c.before.before.well-formed.0.1 (omega (arith, c.if2.false)))
+pub float_from_bits-result : goal.float_from_bits-result
+float_from_bits-result c =
+    let at : Finite (to_bits binary32 c.args.x) = in_range (above _ c.if-x.true) c.well_formed.0.1 (omega (arith, c.if-b-lt2139095040.true)) in
+    no_nan_bits _ (omega (arith, c.root_bits.ensures, (root_bits_range _ at).1))
 
-returns-4 : tie.Need-returns-4
-returns-4 c = both c.before.before.args.x c.before.before.well-formed.0.1 (the_rest c.before.before.args.x c.before.if1.false c.if3.false)
+pub returns-then-b-lt2139095040 : goal.returns-then-b-lt2139095040
+returns-then-b-lt2139095040 c =
+    let p = both c.args.x c.well_formed.0.1 (ap (of_bits binary32) c.root_bits.ensures ∙ the_root (above _ c.if-x.true) (omega (arith, c.if-b-lt2139095040.true))) in
+    record { value = p.0; nearest = p.1 }
 
-pub sqrtf_spec : {M : Type 1} → statement M
-sqrtf_spec =
-    tie.close
-    (tie.spec (λ c. no_nan (above _ c.if1.true)) (λ c κs. at c)
-    (λ c. no_nan_bits _ (omega (arith, c.root-bits.ensures, (root_bits_range _ (at c.before)).1))) returns returns-2
-    (λ c. both c.before.before.args.x c.before.before.well-formed.0.1 (the_zero c.before.before.args.x c.if3.true)) returns-4)
+pub returns-else-b-lt2139095040 : goal.returns-else-b-lt2139095040
+returns-else-b-lt2139095040 c =
+    let p = both c.args.x c.well_formed.0.1 (the_infinity (above _ c.if-x.true) c.well_formed.0.1 (omega (arith, c.if-b-lt2139095040.false))) in
+    record { value = p.0; nearest = p.1 }
+
+pub returns-then-x-2 : goal.returns-then-x-2
+returns-then-x-2 c =
+    let p = both c.args.x c.well_formed.0.1 (the_zero c.args.x c.if-x-2.true) in
+    record { value = p.0; nearest = p.1 }
+
+pub returns-else-x-2 : goal.returns-else-x-2
+returns-else-x-2 c =
+    let p = both c.args.x c.well_formed.0.1 (the_rest c.args.x c.if-x.false c.if-x-2.false) in
+    record { value = p.0; nearest = p.1 }

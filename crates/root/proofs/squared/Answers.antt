@@ -1,13 +1,11 @@
--- `root::squared` meets its contract. Assumes nothing.
-use borrow.Author.Rules.{rules}
+-- `root::squared` meets its contract.
 use borrow.Author.Tests.{eq-eqb, ne_eqb, le-ltb}
 use native.Mathlib.Omega.{arith}
 use mathlib.Core.Path.{◌≡◌, ◌∙◌, ap, sym}
 use Prim.Native.Nat.{ℕ, ◌+◌, ◌*◌, ◌/◌, ◌%◌, ◌<◌, ◌≤◌}
 use Rattle.root.specs.Root.{significand_of, exponent_of, squared_of}
 use Rattle.root.proofs.Scaled.{significand_range}
-use Rattle.root.proofs.squared.Statement.{statement}
-use Rattle.root.proofs.squared.Tie as tie
+use Rattle.root.proofs.squared.Goals as goal
 
 even : (b s p : ℕ) → s ≡ significand_of b → p ≡ exponent_of b → p % 2 ≡ 0 → s * 8388608 ≡ squared_of b
 unfolding squared_of
@@ -26,13 +24,20 @@ normal_uneven : (b : ℕ) → 8388608 ≤ b → 8388608 ≤ (b + 8388608) % 1677
 unfolding squared_of significand_of exponent_of
 normal_uneven b n h = simp (le-ltb b 8388608 n) (simp (ne_eqb ((125 + b / 8388608) % 2) 0 (λ g. omega arith)) (omega arith))
 
-pub squared_spec : {M : Type 1} → statement M
-squared_spec =
-    tie.close
-    (tie.spec (λ c κs. search rules) (λ c κs. search rules)
-    (λ c. omega (arith, c.before.before.significand.ensures, (significand_range _ c.before.before.before.before.requires).1))
-    (λ c. even _ _ _ c.before.before.significand.ensures c.before.exponent.ensures c.if2.true)
-    (λ c. omega (arith, c.before.before.significand.ensures, (significand_range _ c.before.before.before.before.requires).1))
-    (λ c. uneven _ _ _ c.before.before.significand.ensures c.before.exponent.ensures c.if2.false) (λ c. search rules) (λ c. search rules)
-    (λ c. search rules) (λ c. search rules) (λ c. normal_even _ c.before.if1.false c.if3.true) (λ c. search rules) (λ c. search rules)
-    (λ c. search rules) (λ c. normal_uneven _ c.before.if1.false c.if3.false))
+pub overflow_mul-result : goal.overflow_mul-result
+overflow_mul-result c = omega (arith, c.significand-sig.ensures, (significand_range _ c.requires).1)
+
+pub returns-then-exponent-eq0 : goal.returns-then-exponent-eq0
+returns-then-exponent-eq0 c = even _ _ _ c.significand-sig.ensures c.exponent.ensures c.if-exponent-eq0.true
+
+pub overflow_mul-result-then-b-lt8388608 : goal.overflow_mul-result-then-b-lt8388608
+overflow_mul-result-then-b-lt8388608 c = omega (arith, c.significand-sig.ensures, (significand_range _ c.requires).1)
+
+pub returns-then-b-lt8388608 : goal.returns-then-b-lt8388608
+returns-then-b-lt8388608 c = uneven _ _ _ c.significand-sig.ensures c.exponent.ensures c.if-exponent-eq0.false
+
+pub returns-then-v-lt8388608 : goal.returns-then-v-lt8388608
+returns-then-v-lt8388608 c = normal_even _ c.if-b-lt8388608.false c.if-v-lt8388608.true
+
+pub returns : goal.returns
+returns c = normal_uneven _ c.if-b-lt8388608.false c.if-v-lt8388608.false
