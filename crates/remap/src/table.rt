@@ -11,6 +11,8 @@ use super::MountingRead;
 // give more than 32 bits it makes no table where a word has 32.
 
 // A row's answers for the mountings from 0 to 5 that come second.
+#[tactic(auto, unfolding(crate::specs::Inner::packed, crate::specs::Composition::compose_of, crate::specs::First::first))]
+#[tactic(auto, unfolding(crate::specs::Names::same, crate::specs::Names::name_of, vector::specs::Mounting::mounting_of))]
 fn first_six(first: u8) -> u32
     requires { first < 24 }
     ensures { result ≡ six_of first 0 }
@@ -45,6 +47,8 @@ fn first_six(first: u8) -> u32
 }
 
 // A row's answers for the mountings from 6 to 11 that come second.
+#[tactic(auto, unfolding(crate::specs::Inner::packed, crate::specs::Composition::compose_of, crate::specs::First::first))]
+#[tactic(auto, unfolding(crate::specs::Names::same, crate::specs::Names::name_of, vector::specs::Mounting::mounting_of))]
 fn second_six(first: u8) -> u32
     requires { first < 24 }
     ensures { result ≡ six_of first 1 }
@@ -79,6 +83,8 @@ fn second_six(first: u8) -> u32
 }
 
 // A row's answers for the mountings from 12 to 17 that come second.
+#[tactic(auto, unfolding(crate::specs::Inner::packed, crate::specs::Composition::compose_of, crate::specs::First::first))]
+#[tactic(auto, unfolding(crate::specs::Names::same, crate::specs::Names::name_of, vector::specs::Mounting::mounting_of))]
 fn third_six(first: u8) -> u32
     requires { first < 24 }
     ensures { result ≡ six_of first 2 }
@@ -113,6 +119,8 @@ fn third_six(first: u8) -> u32
 }
 
 // A row's answers for the mountings from 18 to 23 that come second.
+#[tactic(auto, unfolding(crate::specs::Inner::packed, crate::specs::Composition::compose_of, crate::specs::First::first))]
+#[tactic(auto, unfolding(crate::specs::Names::same, crate::specs::Names::name_of, vector::specs::Mounting::mounting_of))]
 fn last_six(first: u8) -> u32
     requires { first < 24 }
     ensures { result ≡ six_of first 3 }
@@ -168,6 +176,8 @@ fn answer_at(word: u32, place: u8) -> u8
 }
 
 // What undoes each mounting.
+#[tactic(auto, unfolding(crate::specs::Composition::inverse_of, crate::specs::Composition::compose_of, crate::specs::First::first))]
+#[tactic(auto, unfolding(crate::specs::Names::same, crate::specs::Names::name_of, vector::specs::Mounting::mounting_of))]
 fn undoing(mounting: u8) -> u8
     requires { mounting < 24 }
     ensures { result ≡ inverse_of mounting }
