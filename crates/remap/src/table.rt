@@ -1,4 +1,8 @@
 // One mounting after another, and the mounting that undoes another.
+#![tactic(auto, unfolding(crate::specs::Inner::packed, crate::specs::Composition::compose_of, // the tables' numbers are computed
+crate::specs::Composition::inverse_of, crate::specs::First::first, crate::specs::Names::same, // as their definitions say, by the names
+crate::specs::Names::name_of, vector::specs::Mounting::mounting_of))]
+
 ghost use Rattle.std.specs.Prelude.{◌≡◌, ◌*◌, ◌/◌, ◌%◌, ◌^◌, ◌<◌};
 ghost use Rattle.remap.specs.Given.{Gives};
 ghost use Rattle.remap.specs.Composition.{compose_of, inverse_of, compose_checks, inverse_checks};
@@ -11,8 +15,6 @@ use super::MountingRead;
 // give more than 32 bits it makes no table where a word has 32.
 
 // A row's answers for the mountings from 0 to 5 that come second.
-#[tactic(auto, unfolding(crate::specs::Inner::packed, crate::specs::Composition::compose_of, crate::specs::First::first))]
-#[tactic(auto, unfolding(crate::specs::Names::same, crate::specs::Names::name_of, vector::specs::Mounting::mounting_of))]
 fn first_six(first: u8) -> u32
     requires { first < 24 }
     ensures { result ≡ six_of first 0 }
@@ -47,8 +49,6 @@ fn first_six(first: u8) -> u32
 }
 
 // A row's answers for the mountings from 6 to 11 that come second.
-#[tactic(auto, unfolding(crate::specs::Inner::packed, crate::specs::Composition::compose_of, crate::specs::First::first))]
-#[tactic(auto, unfolding(crate::specs::Names::same, crate::specs::Names::name_of, vector::specs::Mounting::mounting_of))]
 fn second_six(first: u8) -> u32
     requires { first < 24 }
     ensures { result ≡ six_of first 1 }
@@ -83,8 +83,6 @@ fn second_six(first: u8) -> u32
 }
 
 // A row's answers for the mountings from 12 to 17 that come second.
-#[tactic(auto, unfolding(crate::specs::Inner::packed, crate::specs::Composition::compose_of, crate::specs::First::first))]
-#[tactic(auto, unfolding(crate::specs::Names::same, crate::specs::Names::name_of, vector::specs::Mounting::mounting_of))]
 fn third_six(first: u8) -> u32
     requires { first < 24 }
     ensures { result ≡ six_of first 2 }
@@ -119,8 +117,6 @@ fn third_six(first: u8) -> u32
 }
 
 // A row's answers for the mountings from 18 to 23 that come second.
-#[tactic(auto, unfolding(crate::specs::Inner::packed, crate::specs::Composition::compose_of, crate::specs::First::first))]
-#[tactic(auto, unfolding(crate::specs::Names::same, crate::specs::Names::name_of, vector::specs::Mounting::mounting_of))]
 fn last_six(first: u8) -> u32
     requires { first < 24 }
     ensures { result ≡ six_of first 3 }
@@ -155,6 +151,7 @@ fn last_six(first: u8) -> u32
 }
 
 // The word of a row that has the answers for six mountings.
+#[tactic(auto)]
 fn word_of(first: u8, six: u8) -> u32
     requires { (first < 24) × (six < 4) }
     ensures { result ≡ six_of first six }
@@ -176,8 +173,6 @@ fn answer_at(word: u32, place: u8) -> u8
 }
 
 // What undoes each mounting.
-#[tactic(auto, unfolding(crate::specs::Composition::inverse_of, crate::specs::Composition::compose_of, crate::specs::First::first))]
-#[tactic(auto, unfolding(crate::specs::Names::same, crate::specs::Names::name_of, vector::specs::Mounting::mounting_of))]
 fn undoing(mounting: u8) -> u8
     requires { mounting < 24 }
     ensures { result ≡ inverse_of mounting }
