@@ -5,6 +5,9 @@
 ghost use Rattle.std.specs.Prelude.{◌≡◌, not, eqb};
 ghost use Rattle.verdict.specs.Verdict.{no_verdict, next_of, digit_of, byte_of, verdict_of, is_refused};
 
+// The descriptor of standard error.
+const STDERR: i32 = 2;
+
 // The lines that have ended; the first that is a refusal, and its number, both 0 where there is none; whether the number has ended.
 #[derive(Clone, Copy)]
 pub struct Verdict {
@@ -100,7 +103,7 @@ impl Verdict {
 
     // A line as `replay: refused 8 in record 3`.
     fn name(self, program: &[u8], unit: &[u8]) {
-        let fd = libc::STDERR_FILENO;
+        let fd = STDERR;
         io::write_all(fd, program);
         io::write_all(fd, b": refused ");
         io::print_decimal(fd, self.number as u64);
@@ -138,7 +141,7 @@ pub fn tell_log(program: &[u8], begun: bool, number: u8, records: u64) -> bool
             };
             verdict.name(program, b"record");
         } else {
-            let fd = libc::STDERR_FILENO;
+            let fd = STDERR;
             io::write_all(fd, program);
             io::write_all(fd, b": refused ");
             io::print_decimal(fd, number as u64);
