@@ -1,5 +1,5 @@
 -- Laws of `Same`: every operation and every test takes floats that are the same number to results that are. Assumes nothing.
-use Rattle.std.proofs.Common.{◌≡◌, ℕ, zero, suc, ◌-◌, ◌*◌, Bool, true, false, ◌&&◌, ◌||◌, eqb, ltb, sym, refl, ap, ◌∙◌, ap₂, add-zero, mul-zero, zero-add, zero-mul}
+use Rattle.std.proofs.Common.{◌≡◌, ℕ, zero, suc, ◌*◌, Bool, true, false, ◌&&◌, ◌||◌, eqb, ltb, sym, refl, ap, ◌∙◌, ap₂, add-zero, mul-zero, zero-add, zero-mul}
 use mathlib.Core.Bool.{beq, or-true}
 use native.Mathlib.Nat.{sub-zero}
 use lib.Dec.{leb-zero, leb-suc-suc, leb-suc-zero}

@@ -70,6 +70,8 @@ unfolding mul
 mul_zero_right f nan y h z = absurd (false≢true h)
 mul_zero_right f (inf s) y h z = absurd (false≢true h)
 mul_zero_right f (fin s m e) (fin t n d) h z = rounded f (unlike s t) (m * up e * (n * up d)) (down e * down d) (rw z (simp (zero-mul, nat.mul-zero)))
+mul_zero_right f (fin s m e) nan h z = elim z [ ]
+mul_zero_right f (fin s m e) (inf _) h z = elim z [ ]
 
 sum_zero : (f : Format) (s t : Bool) (a b c : ℕ) → a ≡ 0 → b ≡ 0 → Zero (sum f s a t b c)
 unfolding sum

@@ -23,7 +23,7 @@ pub truncating_f32_to_i64-requires : goal.truncating_f32_to_i64-requires
 unfolding of_bits neg
 truncating_f32_to_i64-requires c =
     let between : Inside c.args.x = inside c.args.x c.if-x.false c.if-x-2.false c.if-x-3.false in
-    (subst T (sym between.above) tt, subst T (sym between.below) tt)
+    record { lower_bound = subst T (sym between.above) tt; upper_bound = subst T (sym between.below) tt }
 
 pub overflow_cast-result : goal.overflow_cast-result
 unfolding of_bits neg

@@ -1,12 +1,11 @@
 -- `number::to_u32` meets its contract: each return has the tests that say which case of `to_unsigned` it is.
-use Rattle.std.proofs.Common.{rules}
 use lib.Ieee.{of_bits, neg}
 use Rattle.number.proofs.Unsigned.{in_range, over_range, far_above, not_above, pass}
 use Rattle.number.proofs.whole.to_u32.Goals as goal
 
 pub truncating_f32_to_u64-n-requires : goal.truncating_f32_to_u64-n-requires
 unfolding of_bits neg
-truncating_f32_to_u64-n-requires c = (pass c.if-x.true, pass c.if-x-2.true)
+truncating_f32_to_u64-n-requires c = record { lower_bound = pass c.if-x.true; upper_bound = pass c.if-x-2.true }
 
 pub returns-then-n-lt4294967295 : goal.returns-then-n-lt4294967295
 returns-then-n-lt4294967295 c =
