@@ -15,6 +15,7 @@ const NONE: u16 = 0xffff;
 
 // What a mounting reads for x, y and z, five bits each: 0, 1 and 2 are the sensor's axes, 3, 4 and 5 their negatives; all bits for a
 // number that is no mounting's. The compiler makes a table of the match. Three bits would do; of five it takes x by a shift alone.
+#[tactic(auto, unfolding(crate::specs::Mounting::mounting_of))]
 pub fn axes_of(mounting: u8) -> u16
     ensures { result ≡ axes_of mounting }
 {

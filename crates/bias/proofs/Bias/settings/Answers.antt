@@ -1,0 +1,12 @@
+-- `bias::Bias::settings` meets its contract, by the number of the state's check.
+use mathlib.Core.Path.{refl}
+use Rattle.answer.proofs.Answering.{refuses, gives}
+use Rattle.bias.specs.declared.reads.SettingsRead.TheVariants.{Refused}
+use Rattle.bias.specs.Calls.{settings_said}
+use Rattle.bias.proofs.Bias.settings.Goals as goal
+
+pub returns-then-number-ne0 : goal.returns-then-number-ne0
+returns-then-number-ne0 c = refuses settings_said Refused (λ n. refl) _ _ refl c.refusal-number.ensures c.if-number-ne0.true
+
+pub returns : goal.returns
+returns c = gives settings_said Refused (λ n. refl) _ _ refl c.refusal-number.ensures c.if-number-ne0.false refl
