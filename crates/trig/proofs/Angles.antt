@@ -11,7 +11,8 @@ use Rattle.trig.specs.Degrees.{lifted, wave_of, wave_at}
 use Rattle.trig.specs.Octant.{octant_of}
 use Rattle.trig.specs.Angle.{turns_to, straight, is_angle, Angled, nowhere, toward}
 use Rattle.trig.specs.Angle.{ordered, ratio_of, flat_steps_of, steep_steps_of, degrees_of, bearing_of, angle_of, Angles}
-use Rattle.trig.proofs.Octants.{Level, octant_level}
+use Rattle.trig.proofs.Octants.{Level}
+use Rattle.trig.proofs.Levels.{octant_level}
 use Rattle.trig.proofs.Eight.{flat_case, steep_case}
 use Rattle.trig.proofs.Ratios.{Ratio, ratio_gives}
 use Rattle.trig.proofs.Lifted.{Inside, Stands, flat_inside, steep_inside, degrees_stands, in_range, lifted_steps}

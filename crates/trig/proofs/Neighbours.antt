@@ -6,7 +6,7 @@ use Rattle.trig.specs.Fixed.{one, scaled_of, stage_of, sine_fixed_of, cosine_fix
 use Rattle.trig.specs.Wave.{pi_over180, two_to33, radians_of}
 use Rattle.trig.specs.Octant.{tangent_one, most, sine_step, cosine_step, rise_of, run_of}
 use Rattle.trig.proofs.Around.{cut_fixed}
-use Rattle.trig.proofs.Nested.{sines}
+use Rattle.trig.proofs.Terms.{sines}
 use Rattle.trig.proofs.Series.{nested}
 use Rattle.trig.proofs.Quarter.{radians_small}
 

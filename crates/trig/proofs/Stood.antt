@@ -11,7 +11,8 @@ use Rattle.trig.specs.Octant.{most, sine_step, cosine_step}
 use Rattle.trig.specs.Angle.{quarter_turn}
 use Rattle.trig.proofs.Around.{Around}
 use Rattle.trig.proofs.Reduce.{order}
-use Rattle.trig.proofs.Nested.{top_le, sines, cosines, sine_series, sine_bottom, cosine_series, cosine_bottom}
+use Rattle.trig.proofs.Terms.{sines, cosines}
+use Rattle.trig.proofs.Nested.{top_le, sine_series, sine_bottom, cosine_series, cosine_bottom}
 use Rattle.trig.proofs.Place.{Placed, placed_more, placed_less, radians_le, sine_placed, cosine_placed}
 
 -- f is within 8 units of v / 2 ^ 30, and at most 1
