@@ -13,16 +13,16 @@ pub returns-then-not-next : goal.returns-then-not-next
 returns-then-not-next c =
     let given = c.args in
     startup_over given.state given.gyroscope given.accelerometer c.update-reading.ensures c.number.ensures c.if-number-ne0.false
-    (untrue _ (ap not c.if-not-next.true))
+    c.if-not-next.true
 
 pub returns-then-zeroed-ne0 : goal.returns-then-zeroed-ne0
 returns-then-zeroed-ne0 c =
     let given = c.args in
     second_refused given.state given.gyroscope given.accelerometer c.update-reading.ensures c.number.ensures c.if-number-ne0.false
-    (still _ (ap not c.if-not-next.false)) c.set_heading-zeroed.ensures c.if-zeroed-ne0.true
+    c.if-not-next.false c.set_heading-zeroed.ensures c.if-zeroed-ne0.true
 
 pub returns : goal.returns
 returns c =
     let given = c.args in
     north_set given.state given.gyroscope given.accelerometer c.update-reading.ensures c.number.ensures c.if-number-ne0.false
-    (still _ (ap not c.if-not-next.false)) c.set_heading-zeroed.ensures c.if-zeroed-ne0.false
+    c.if-not-next.false c.set_heading-zeroed.ensures c.if-zeroed-ne0.false
