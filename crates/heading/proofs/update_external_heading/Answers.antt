@@ -16,7 +16,7 @@ returns-then-number-ne0 c =
     c.refusal-number.ensures
     ∙ ap (λ (b : Bool). refusal_of (given_checks given.state b given.heading)) (ap₂ ◌&&◌ c.is_finite.ensures c.is_finite-2.ensures)
     in
-    external_refused given.state given.gyroscope given.accelerometer given.heading given_number
+    external_refused given.state given.gyroscope given.accelerometer given.heading given_number c.if-number-ne0.true
 
 pub returns-then-is_finite-number : goal.returns-then-is_finite-number
 returns-then-is_finite-number c =

@@ -10,7 +10,7 @@ returns c =
       c.sin.ensures.value,
       c.cos-2.ensures.value,
       c.cos.ensures.value,
-      c.sin-sin_heading.ensures.0,
+      c.sin-sin_heading.ensures.value,
       c.angle-roll_angle.ensures,
       c.roll-at.ensures,
     )
