@@ -1,4 +1,8 @@
 // One mounting after another, and the mounting that undoes another.
+#![tactic(auto, unfolding(crate::specs::Inner::packed, crate::specs::Composition::compose_of, // the tables' numbers are computed
+crate::specs::Composition::inverse_of, crate::specs::First::first, crate::specs::Names::same, // as their definitions say, by the names
+crate::specs::Names::name_of, vector::specs::Mounting::mounting_of))]
+
 ghost use Rattle.std.specs.Prelude.{◌≡◌, ◌*◌, ◌/◌, ◌%◌, ◌^◌, ◌<◌};
 ghost use Rattle.remap.specs.Given.{Gives};
 ghost use Rattle.remap.specs.Composition.{compose_of, inverse_of, compose_checks, inverse_checks};
@@ -147,6 +151,7 @@ fn last_six(first: u8) -> u32
 }
 
 // The word of a row that has the answers for six mountings.
+#[tactic(auto)]
 fn word_of(first: u8, six: u8) -> u32
     requires { (first < 24) × (six < 4) }
     ensures { result ≡ six_of first six }

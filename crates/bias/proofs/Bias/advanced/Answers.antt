@@ -1,5 +1,4 @@
 -- `bias::Bias::advanced` meets its contract: each return is one of the three cases.
-use borrow.Author.Rules.{rules}
 use Rattle.bias.proofs.Advancing.{moving, waiting, learning}
 use Rattle.bias.proofs.Bias.advanced.Goals as goal
 

@@ -1,5 +1,4 @@
 -- `remap::names::byte_of` meets its contract, by the test of the place.
-use borrow.Author.Rules.{rules}
 use borrow.Author.Tests.{eq-eqb, ne_eqb}
 use Rattle.remap.specs.Inner.{byte_of}
 use Rattle.remap.proofs.names.byte_of.Goals as goal

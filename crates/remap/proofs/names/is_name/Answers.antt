@@ -1,10 +1,6 @@
 -- `remap::names::is_name` meets its contract.
-use Prim.Native.Nat.{◌-◌, ◌≤◌}
 use native.Mathlib.Omega.{arith}
-use mathlib.Core.Path.{◌≡◌, refl, sym, ◌∙◌}
-use lib.ListN.{drop}
-use borrow.Author.Rules.{rules}
-use Rattle.remap.specs.Names.{name_of, same}
+use mathlib.Core.Path.{refl, sym, ◌∙◌}
 use Rattle.remap.proofs.Naming.{name_next, name_not, name_end, byte_at}
 use Rattle.remap.proofs.names.is_name.Goals as goal
 

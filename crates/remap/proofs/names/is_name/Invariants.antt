@@ -1,11 +1,8 @@
 -- `remap::names::is_name` meets its contract.
 use Prim.Native.Nat.{◌-◌, ◌≤◌}
-use native.Mathlib.Omega.{arith}
-use mathlib.Core.Path.{◌≡◌, refl, sym, ◌∙◌}
+use mathlib.Core.Path.{◌≡◌}
 use lib.ListN.{drop}
-use borrow.Author.Rules.{rules}
 use Rattle.remap.specs.Names.{name_of, same}
-use Rattle.remap.proofs.Naming.{name_next, name_not, name_end, byte_at}
 use Rattle.remap.proofs.names.is_name.Given as goal
 
 abbrev pub invariant-loop-k : goal.invariant-loop-k

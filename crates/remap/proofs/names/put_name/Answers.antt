@@ -1,10 +1,7 @@
 -- `remap::names::put_name` meets its contract.
-use Prim.Native.Nat.{◌-◌, ◌≤◌}
 use native.Mathlib.Omega.{arith}
-use mathlib.Core.Path.{◌≡◌, refl, ◌∙◌}
-use lib.ListN.{length, take, length-set}
-use borrow.Author.Rules.{rules}
-use Rattle.remap.specs.Names.{name_of}
+use mathlib.Core.Path.{refl, ◌∙◌}
+use lib.ListN.{length-set}
 use Rattle.remap.proofs.Naming.{copy_next, copy_end, byte_at}
 use Rattle.remap.proofs.names.put_name.Goals as goal
 

@@ -1,11 +1,8 @@
 -- `remap::names::put_name` meets its contract.
 use Prim.Native.Nat.{◌-◌, ◌≤◌}
-use native.Mathlib.Omega.{arith}
-use mathlib.Core.Path.{◌≡◌, refl, ◌∙◌}
-use lib.ListN.{length, take, length-set}
-use borrow.Author.Rules.{rules}
+use mathlib.Core.Path.{◌≡◌}
+use lib.ListN.{length, take}
 use Rattle.remap.specs.Names.{name_of}
-use Rattle.remap.proofs.Naming.{copy_next, copy_end, byte_at}
 use Rattle.remap.proofs.names.put_name.Given as goal
 
 abbrev pub invariant-loop-k : goal.invariant-loop-k

@@ -1,11 +1,7 @@
 -- `remap::names::read_name` meets its contract.
-use Prim.Native.Nat.{◌-◌, ◌≤◌}
 use native.Mathlib.Omega.{arith}
-use mathlib.Core.Path.{◌≡◌, refl, sym, ◌∙◌}
-use borrow.Author.Rules.{rules}
+use mathlib.Core.Path.{refl, sym, ◌∙◌}
 use Rattle.answer.proofs.Tests.{differs}
-use Rattle.remap.specs.First.{first}
-use Rattle.remap.specs.Names.{name_of, same, named_by}
 use Rattle.answer.proofs.Answering.{fails}
 use Rattle.remap.proofs.Giving.{gives_refusal}
 use Rattle.remap.proofs.Naming.{reads, unknown}

@@ -1,15 +1,8 @@
 -- `remap::names::read_name` meets its contract.
 use Prim.Native.Nat.{◌-◌, ◌≤◌}
-use native.Mathlib.Omega.{arith}
-use mathlib.Core.Path.{◌≡◌, refl, sym, ◌∙◌}
-use borrow.Author.Rules.{rules}
-use Rattle.answer.proofs.Tests.{differs}
+use mathlib.Core.Path.{◌≡◌}
 use Rattle.remap.specs.First.{first}
 use Rattle.remap.specs.Names.{name_of, same, named_by}
-use Rattle.answer.proofs.Answering.{fails}
-use Rattle.remap.proofs.Giving.{gives_refusal}
-use Rattle.remap.proofs.Naming.{reads, unknown}
-use Rattle.remap.proofs.Searching.{first_next, first_here, first_end}
 use Rattle.remap.proofs.names.read_name.Given as goal
 
 abbrev pub invariant-loop-mounting : goal.invariant-loop-mounting

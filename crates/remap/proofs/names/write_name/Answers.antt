@@ -1,5 +1,4 @@
 -- `remap::names::write_name` meets its contract, by the number of its checks.
-use borrow.Author.Rules.{rules}
 use Rattle.answer.proofs.Answering.{stays, becomes}
 use Rattle.remap.proofs.Naming.{writable}
 use Rattle.remap.proofs.names.write_name.Goals as goal

@@ -1,6 +1,5 @@
 -- `remap::table::compose` meets its contract.
 use native.Mathlib.Omega.{arith}
-use borrow.Author.Rules.{rules}
 use Rattle.answer.proofs.Answering.{fails}
 use Rattle.remap.proofs.Giving.{gives_refusal}
 use Rattle.remap.proofs.Composing.{both_below, answered}

@@ -1,7 +1,6 @@
 -- `remap::table::inverse` meets its contract.
 use mathlib.Core.Path.{◌∙◌}
 use borrow.Author.Tests.{lt-ltb, le-ltb}
-use borrow.Author.Rules.{rules}
 use Rattle.answer.proofs.Answering.{fails, passes, all_pass}
 use Rattle.remap.proofs.Giving.{gives_refusal, gives_number}
 use Rattle.remap.proofs.table.inverse.Goals as goal

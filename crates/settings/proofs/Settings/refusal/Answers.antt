@@ -1,0 +1,30 @@
+-- `settings::Settings::refusal` meets its contract: the first check that fails.
+use Rattle.answer.specs.Refusals.{refusal_of}
+use Rattle.answer.proofs.Tests.{one}
+use Rattle.std.proofs.Common.{ap, not}
+use Rattle.settings.proofs.Settings.refusal.Goals as goal
+
+pub returns-then-not-is_known : goal.returns-then-not-is_known
+unfolding refusal_of
+returns-then-not-is_known c = rw (one c.is_known.ensures (ap not c.if-not-is_known.true))
+
+pub returns-then-not-is_finite : goal.returns-then-not-is_finite
+unfolding refusal_of
+returns-then-not-is_finite c = rw (one c.is_known.ensures (ap not c.if-not-is_known.false), one c.is_finite.ensures (ap not c.if-not-is_finite.true))
+
+pub returns-then-not-is_sound : goal.returns-then-not-is_sound
+unfolding refusal_of
+returns-then-not-is_sound c = rw (one c.is_known.ensures (ap not c.if-not-is_known.false), one c.is_finite.ensures (ap not c.if-not-is_finite.false))
+    (rw (one c.is_sound.ensures (ap not c.if-not-is_sound.true)))
+
+pub returns-then-not-is_finite-2 : goal.returns-then-not-is_finite-2
+unfolding refusal_of
+returns-then-not-is_finite-2 c = rw (one c.is_known.ensures (ap not c.if-not-is_known.false), one c.is_finite.ensures (ap not c.if-not-is_finite.false))
+    (rw (one c.is_sound.ensures (ap not c.if-not-is_sound.false), ← c.derived.ensures)
+    (rw (one c.is_finite-2.ensures (ap not c.if-not-is_finite-2.true))))
+
+pub returns : goal.returns
+unfolding refusal_of
+returns c = rw (one c.is_known.ensures (ap not c.if-not-is_known.false), one c.is_finite.ensures (ap not c.if-not-is_finite.false))
+    (rw (one c.is_sound.ensures (ap not c.if-not-is_sound.false), ← c.derived.ensures)
+    (rw (one c.is_finite-2.ensures (ap not c.if-not-is_finite-2.false))))
