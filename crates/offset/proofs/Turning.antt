@@ -1,18 +1,14 @@
 -- A vector that was checked is turned, and not refused; and turning keeps it finite. Assumes nothing.
 use Prim.Native.Nat.{ℕ, ◌<◌}
 use native.Mathlib.Omega.{arith}
-use mathlib.Core.Path.{◌≡◌, ap, sym, subst, ◌∙◌}
+use mathlib.Core.Path.{◌≡◌, ap, sym, ◌∙◌}
 use mathlib.Core.Bool.{true, not}
-use mathlib.Core.List.{[], ◌∷◌}
 use lib.Ieee.{Float}
-use denote.Enum.Declared.{tag_of}
-use types.Run.{OneOf, miss}
 use borrow.Author.Tests.{le-ltb}
 use Rattle.answer.specs.declared.Answer.{Answer}
 use Rattle.answer.specs.declared.Answer.TheVariants.{Turned}
 use Rattle.answer.specs.Answers.{values_of}
 use Rattle.answer.specs.Promises.{Answers}
-use Rattle.answer.specs.contracts.Answer.{the_type}
 use Rattle.answer.proofs.Answering.{passes, all_pass, is_new}
 use Rattle.vector.specs.declared.Vector.{Vector}
 use Rattle.vector.specs.Vectors.{vector, finite_vector, from_array_of}
@@ -32,10 +28,6 @@ pub is_turned : (v : Vector) (m : ℕ) {r : Answer} → m < 24 → finite_vector
     → r ≡ turned_answer (turn_of m v)
 is_turned v m h f a =
     is_new _ _ a.exact (passes 4 _ (le-ltb 23 m (omega arith)) ∙ passes 5 _ (ap not f) ∙ all_pass)
-
--- an answer that is a turned vector has no other case
-pub no_other_case : (v : Vector) {r : Answer} → r ≡ turned_answer v → OneOf (0 ∷ 2 ∷ 3 ∷ []) (tag_of the_type r) → ⊥
-no_other_case v e k = miss (0 ∷ 2 ∷ 3 ∷ []) 1 tt (subst (λ (a : Answer). OneOf (0 ∷ 2 ∷ 3 ∷ []) (tag_of the_type a)) e k)
 
 -- the axes of a turned vector make it
 pub from_axes : {w : Vector} {r : Answer} {x y z : Float} (v : Vector) → r ≡ turned_answer v → r ≡ Turned x y z → w ≡ vector x y z → w ≡ v

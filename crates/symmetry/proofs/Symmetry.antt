@@ -107,8 +107,9 @@ module _ (m : Mounting) (t : T (permutes m)) where
       rw (settings h s) (change_alike h (with_settings_lem h s) (refusal_of (change_checks a s)))
 
   every_run : {a b : Bias} → Alike m a b → (cs : List Call) → AlikeRun m (run_of outline_of a cs) (run_of outline_of b (map (turn_call m) cs))
-  every_run h [] = none
-  every_run h (c ∷ cs) = next (one_step h c) (every_run (one_step h c).state cs)
+  every_run {a = a} {b = b} h [] = none
+  every_run {a = a} {b = b} h (c ∷ cs) =
+      next (one_step h c) (every_run {a = (step_of outline_of a c).state} {b = (step_of outline_of b (turn_call m c)).state} (one_step h c).state cs)
 
 pub symmetric : Symmetric
 symmetric n below s e cs =

@@ -1,5 +1,6 @@
 -- The angle that is found has nearly the tangent: the guess where the test says so, and else the nearer end of one step. Assumes nothing.
-use Rattle.std.proofs.Common.{◌≡◌, ℕ, ◌+◌, ◌-◌, ◌*◌, ◌<◌, ◌≤◌, Bool, true, false, cond, T, leb, sym, refl, subst, arith, le→leb, leb→le, le-leb, leb-false, leb-true}
+use Rattle.std.proofs.Common.{◌≡◌, ℕ, ◌+◌, ◌-◌, ◌*◌, ◌<◌, ◌≤◌, Bool, true, false, cond, T, leb, sym, refl, subst, arith, le→leb, leb→le, le-leb, leb-false}
+use Rattle.std.proofs.Common.{leb-true}
 use lib.Ieee.Fits.{and_i, and_l, and_r}
 use borrow.Author.Tests.{lt-leb}
 use Rattle.trig.specs.declared.octant.Span.{Span}

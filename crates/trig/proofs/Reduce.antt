@@ -1,5 +1,6 @@
 -- `turns` is the nearest multiple of 90 degrees, and an angle on the grid of 2 ^ -26 degrees is reduced as the exact one is. Assumes nothing.
-use Rattle.std.proofs.Common.{◌≡◌, ℕ, ◌+◌, ◌-◌, ◌*◌, ◌<◌, ◌≤◌, Bool, true, false, ltb, ◌⊎◌, sym, refl, ◌∙◌, inl, inr, le_of_lt, mul-le-mul_right, mul_comm, add-mul, lt_of_mul-lt-mul_right, le_of_mul-le-mul_right, arith, lit<, ltb-false, ltb-true, le-ltb, lt-ltb}
+use Rattle.std.proofs.Common.{◌≡◌, ℕ, ◌+◌, ◌-◌, ◌*◌, ◌<◌, ◌≤◌, Bool, true, false, ltb, ◌⊎◌, sym, refl, ◌∙◌, inl, inr, le_of_lt, mul-le-mul_right, mul_comm}
+use Rattle.std.proofs.Common.{add-mul, lt_of_mul-lt-mul_right, le_of_mul-le-mul_right, arith, lit<, ltb-false, ltb-true, le-ltb, lt-ltb}
 use native.Mathlib.Nat.{mul-sub}
 use native.Mathlib.Nat.{div-eq_of_lt-le}
 use Rattle.trig.specs.Degrees.{apart, turns, left, left_minus, NearestMultiple}

@@ -1,6 +1,7 @@
 -- The exact sine and cosine of an angle that is j quarter turns and n steps of 2 ^ -16 degrees more or less, the tie at 45 degrees and n = 0 included: how
 -- near they are, and their signs. Assumes nothing.
-use Rattle.std.proofs.Common.{◌≡◌, ℕ, ◌+◌, ◌*◌, ◌%◌, ◌^◌, ◌<◌, ◌≤◌, Bool, true, false, cond, not, eqb, leb, ◌⊎◌, refl, ap, inl, inr, zero-le, mul-le-mul_right, mul-le-mul, mul-pos, zero-mul, arith, lit<, lit≤}
+use Rattle.std.proofs.Common.{◌≡◌, ℕ, ◌+◌, ◌*◌, ◌%◌, ◌^◌, ◌<◌, ◌≤◌, Bool, true, false, cond, not, eqb, leb, ◌⊎◌, refl, ap, inl, inr, zero-le, mul-le-mul_right}
+use Rattle.std.proofs.Common.{mul-le-mul, mul-pos, zero-mul, arith, lit<, lit≤}
 use native.Mathlib.Nat.{one-le-pow}
 use lib.Ieee.{unlike}
 use Rattle.trig.specs.Series.{sine_num, sine_den, cosine_num, cosine_den}

@@ -12,9 +12,9 @@ returns-then-not-given-is_finite c = rw (two {r = c.args.given} refl c.is_finite
 pub returns-then-not-in_turn : goal.returns-then-not-in_turn
 unfolding refusal_of
 returns-then-not-in_turn c =
-    rw (two {r = c.args.given} refl c.is_finite.ensures (ap not c.if-not-given-is_finite.false), one c.in_turn_lem.ensures (ap not c.if-not-in_turn.true))
+    rw (two {r = c.args.given} refl c.is_finite.ensures (ap not c.if-not-given-is_finite.false), one c.in_turn.ensures (ap not c.if-not-in_turn.true))
 
 pub returns : goal.returns
 unfolding refusal_of
 returns c =
-    rw (two {r = c.args.given} refl c.is_finite.ensures (ap not c.if-not-given-is_finite.false), one c.in_turn_lem.ensures (ap not c.if-not-in_turn.false))
+    rw (two {r = c.args.given} refl c.is_finite.ensures (ap not c.if-not-given-is_finite.false), one c.in_turn.ensures (ap not c.if-not-in_turn.false))

@@ -5,4 +5,4 @@ use Rattle.heading.proofs.turn.headed.Goals as goal
 pub returns : goal.returns
 unfolding headed_of
 returns c =
-    simp (c.product.ensures, c.new-rotation.ensures, c.sin.ensures.0, c.cos.ensures.0, c.angle.ensures, c.yaw-at.ensures)
+    simp (c.product.ensures, c.new-rotation.ensures, c.sin.ensures.value, c.cos.ensures.value, c.angle.ensures, c.yaw-at.ensures)

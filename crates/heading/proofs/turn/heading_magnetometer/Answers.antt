@@ -7,10 +7,10 @@ unfolding magnetometer_of
 returns c =
     simp (
       c.new.ensures,
-      c.sin.ensures.0,
-      c.cos-2.ensures.0,
-      c.cos.ensures.0,
-      c.sin-sin_heading.ensures.0,
+      c.sin.ensures.value,
+      c.cos-2.ensures.value,
+      c.cos.ensures.value,
+      c.sin-sin_heading.ensures.value,
       c.angle-roll_angle.ensures,
       c.roll-at.ensures,
     )

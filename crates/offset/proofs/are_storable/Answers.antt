@@ -1,0 +1,11 @@
+-- `offset::are_storable` meets its contract: each of the three is.
+use Rattle.offset.specs.Record.{storable_vector, vector_at}
+use Rattle.offset.proofs.are_storable.Goals as goal
+
+pub returns : goal.returns
+unfolding storable_vector vector_at
+returns c =
+    let y = c in
+    let x = y in
+    rw (x.is_storable.ensures, y.is_storable-2.ensures, c.is_storable-3.ensures)
+    (rw (x.bits_at.ensures, y.bits_at-2.ensures, c.bits_at-3.ensures))
