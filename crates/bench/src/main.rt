@@ -11,21 +11,23 @@ mod still;
 use ahrs::{Ahrs, Change};
 use bias::{Bias, BiasSettings, Started};
 use filter::{Beginning, Sensor, Standing};
-use libc::STDOUT_FILENO;
 use locked::Story;
 use math::Quaternion;
 use offset::{Offset, RecordRead};
 use vector::Vector;
 
+// The descriptor of standard output.
+const STDOUT: i32 = 1;
+
 // The bench table's record: offset (1, -2, 0.5) under mounting 11.
 const RECORD: [u8; 18] = *b"GOF\x01\x00\x0b\x00\x00\x80\x3f\x00\x00\x00\xc0\x00\x00\x00\x3f";
 
 fn say(text: &[u8]) {
-    io::write_all(STDOUT_FILENO, text);
+    io::write_all(STDOUT, text);
 }
 
 fn count(n: u64) {
-    io::print_decimal(STDOUT_FILENO, n);
+    io::print_decimal(STDOUT, n);
 }
 
 fn print_roots() {
@@ -49,7 +51,7 @@ fn print_still(name: &[u8], stationary_period: f32) {
 
 fn bits(x: f32) {
     say(b" ");
-    io::print_hex(STDOUT_FILENO, wire::bits_of(x) as u64, 8);
+    io::print_hex(STDOUT, wire::bits_of(x) as u64, 8);
 }
 
 fn vector(v: Vector) {
@@ -106,7 +108,7 @@ fn print_restored(name: &[u8], bytes: &[u8], mounting: u8) {
 
 fn print_records() {
     let mut longer = [0u8; 19];
-    bytes::copy(&RECORD, &mut longer);
+    longer[..18].copy_from_slice(&RECORD);
     let mut unknown = RECORD;
     unknown[5] = 24;
     print_record(b"record", &RECORD);

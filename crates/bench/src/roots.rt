@@ -3,7 +3,8 @@
 ghost use Rattle.std.specs.Prelude.{◌≡◌, ◌≤◌};
 ghost use Rattle.bench.specs.Vectors.{right_of};
 
-use libc::STDIN_FILENO;
+// The descriptor of standard input.
+const STDIN: i32 = 0;
 
 // More vectors than this are not read.
 const MOST: u64 = 0xffff_ffff_ffff_ffff;
@@ -29,7 +30,7 @@ pub(crate) fn run() -> Tally
     let mut wrong: u64 = 0;
     let mut v = [0u8; 8];
     while read < MOST {
-        if io::read_full(STDIN_FILENO, &mut v) < 8 {
+        if io::read_full(STDIN, &mut v) < 8 {
             break;
         }
         if !is_right(&v) {

@@ -24,6 +24,8 @@ use filters::Filter;
 use line::{Lines, put_byte, put_number, put_state, put_words};
 use record::{RECORD, word_at};
 use said::Said;
+use std::io::{Error, Read};
+use std::process::ExitCode;
 use verdict::Verdict;
 use words::Words;
 
@@ -51,17 +53,21 @@ struct Printed {
 }
 
 // The states after a block, what its lines and those before say of the run, and whether to read on; where a read or a write has
-// failed nothing more is printed.
+// failed nothing more is printed, and the program ends with the status.
 #[derive(Clone, Copy)]
 struct Turn {
     machine: Machine,
     verdict: Verdict,
     more: bool,
     failed: bool,
+    status: u8,
 }
 
 // The bytes of one read.
 const BLOCK: usize = 4096;
+
+// The descriptor of standard input.
+const STDIN: i32 = 0;
 
 fn answer_bias(machine: Machine, call: u32, record: &[u8], quiet: bool) -> Answered {
     let before = machine.estimator;
@@ -197,55 +203,67 @@ fn print_all(machine: Machine, block: &[u8], out: &mut Lines) -> Printed {
 }
 
 // Writes the first n bytes, and says what they say of the run.
-fn write_part(lines: &[u8], n: usize, machine: Machine, before: Verdict) -> Turn {
+fn write_part(rt: &HostRuntime, lines: &[u8], n: usize, machine: Machine, before: Verdict) -> Turn {
+    let mut failure = Error::from_raw_os_error(0);
     if n <= lines.len() {
-        if io::write_all(libc::STDOUT_FILENO, &lines[0..n]) {
-            let verdict = before.over(&lines[0..n]);
-            return Turn {
-                machine,
-                verdict,
-                more: true,
-                failed: false,
-            };
+        match rt.write_all(&lines[0..n]) {
+            Ok(()) => {
+                let verdict = before.over(&lines[0..n]);
+                return Turn {
+                    machine,
+                    verdict,
+                    more: true,
+                    failed: false,
+                    status: 0,
+                };
+            }
+            Err(e) => failure = e,
         }
     }
-    os::fail(b"beside: standard output");
     Turn {
         machine,
         verdict: before,
         more: false,
         failed: true,
+        status: verdict::tell_failed(b"beside: standard output", failure),
     }
 }
 
 // It takes the array, so that a caller that had it written has nothing to prove of its length.
-fn write(lines: &Lines, n: usize, machine: Machine, before: Verdict) -> Turn {
-    write_part(lines, n, machine, before)
+fn write(rt: &HostRuntime, lines: &Lines, n: usize, machine: Machine, before: Verdict) -> Turn {
+    write_part(rt, lines, n, machine, before)
 }
 
-// Whether the input has ended, which one more read tells from a read that failed.
-fn is_end() -> bool {
+// Whether the input has ended, which one more read tells from a read that failed; why it has not.
+fn ended(rt: &HostRuntime) -> Result<(), Error> {
     let mut more = [0u8; 1];
-    libc::read(libc::STDIN_FILENO, &mut more) == 0
+    let mut input = rt.stdin();
+    match input.read(&mut more) {
+        Ok(0) => Ok(()),
+        Ok(_) => Err(Error::from_raw_os_error(0)),
+        Err(e) => Err(e),
+    }
 }
 
 // Reads a block of records, and writes its lines. A block that is not full is the last.
-fn read_on(machine: Machine, verdict: Verdict) -> Turn {
+fn read_on(rt: &HostRuntime, machine: Machine, verdict: Verdict) -> Turn {
     let mut block = io::buffer();
-    let n = io::read_full(libc::STDIN_FILENO, &mut block);
-    if (n < BLOCK) && !is_end() {
-        os::fail(b"beside: standard input");
-        return Turn {
-            machine,
-            verdict,
-            more: false,
-            failed: true,
-        };
+    let n = io::read_full(STDIN, &mut block);
+    if n < BLOCK {
+        if let Err(e) = ended(rt) {
+            return Turn {
+                machine,
+                verdict,
+                more: false,
+                failed: true,
+                status: verdict::tell_failed(b"beside: standard input", e),
+            };
+        }
     }
     let mut out = io::large_buffer();
     let printed = print_all(machine, &block[..n], &mut out);
     let machine = printed.machine;
-    let mut turn = write(&out, printed.at, machine, verdict);
+    let mut turn = write(rt, &out, printed.at, machine, verdict);
     turn.more = turn.more & (n == BLOCK);
     turn
 }
@@ -256,7 +274,7 @@ fn finish(verdict: Verdict) {
 }
 
 // Nothing says that an input ends, so the turns are counted down, from a number that no run uses up.
-fn main() {
+fn main(rt: HostRuntime) -> ExitCode {
     let mut machine = Machine {
         estimator: Estimator::Never,
         filter: Filter::Never,
@@ -264,15 +282,18 @@ fn main() {
     };
     let mut verdict = Verdict::none();
     let mut failed = false;
+    let mut status = 0;
     let mut turns = u64::MAX;
     while turns > 0 {
-        let turn = read_on(machine, verdict);
+        let turn = read_on(&rt, machine, verdict);
         machine = turn.machine;
         verdict = turn.verdict;
         failed = turn.failed;
+        status = turn.status;
         turns = if turn.more { turns - 1 } else { 0 };
     }
     if !failed {
         finish(verdict);
     }
+    ExitCode::from(status)
 }

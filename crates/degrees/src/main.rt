@@ -5,7 +5,10 @@ mod vectors; // vectors.rt: what a vector says, and whether an answer is right
 
 ghost use Rattle.std.specs.Prelude.{◌<◌};
 
-use libc::{STDIN_FILENO, STDOUT_FILENO};
+// The descriptors of standard input and standard output.
+const STDIN: i32 = 0;
+
+const STDOUT: i32 = 1;
 
 // More vectors than this are not read.
 const MOST: u64 = 0xffff_ffff_ffff_ffff;
@@ -31,7 +34,7 @@ fn run() -> Tally {
     let mut v = [0u8; 24];
     let mut n: u64 = 0;
     while n < MOST {
-        if io::read_full(STDIN_FILENO, &mut v) < 24 {
+        if io::read_full(STDIN, &mut v) < 24 {
             break;
         }
         let kind = vectors::kind(&v);
@@ -45,12 +48,12 @@ fn run() -> Tally {
 }
 
 fn print_kind(name: &[u8], read: u64, wrong: u64) {
-    io::write_all(STDOUT_FILENO, name);
-    io::write_all(STDOUT_FILENO, b": ");
-    io::print_decimal(STDOUT_FILENO, read);
-    io::write_all(STDOUT_FILENO, b" read, ");
-    io::print_decimal(STDOUT_FILENO, wrong);
-    io::write_all(STDOUT_FILENO, b" wrong\n");
+    io::write_all(STDOUT, name);
+    io::write_all(STDOUT, b": ");
+    io::print_decimal(STDOUT, read);
+    io::write_all(STDOUT, b" read, ");
+    io::print_decimal(STDOUT, wrong);
+    io::write_all(STDOUT, b" wrong\n");
 }
 
 fn main() {

@@ -32,6 +32,8 @@ no_quarter (fin s m e) z = above s (down e) (m * up e * 4) (down_pos e) (rw z (s
     above : (s : Bool) (d k : ℕ) → 0 < d → k ≡ 0 → (below false (1 * 1 * d) s k || level false (1 * 1 * d) s k) ≡ true → ⊥
     above true d k p z h = let n = eqb-true (1 * 1 * d) k (both (eqb (1 * 1 * d) k) _ h).0 in omega arith
     above false d k p z h = let n = over (1 * 1 * d) k h in omega arith
+no_quarter nan z = elim z [ ]
+no_quarter (inf _) z = elim z [ ]
 
 pub within_no_zeros : (q : Quaternion) → within q ≡ true → eq_of q zeros ≡ false
 within_no_zeros q h = go (eq_of q zeros) refl

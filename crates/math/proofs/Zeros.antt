@@ -48,6 +48,8 @@ no_reciprocal : (x : Float) → Zero x → finite (one ⊘ sqrt_of x) ≡ true �
 unfolding sqrt_of div of_bits
 no_reciprocal (fin s zero e) z h = false≢true h
 no_reciprocal (fin s (suc m) e) z h = suc-ne-zero m z
+no_reciprocal lib.Ieee.nan z h = elim z [ ]
+no_reciprocal (lib.Ieee.inf _) z h = elim z [ ]
 
 pub no_norm : (q : Quaternion) → Zero (norm_squared_of q) → finite_quaternion (normalize_of q) ≡ true → ⊥
 unfolding normalize_of norm_of

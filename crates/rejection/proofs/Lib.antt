@@ -1,5 +1,4 @@
 -- in reading order
-pub mod Settling  -- what each return of an update has to show
 pub mod Order  -- the order of whole numbers
 pub mod Inside  -- counts stay between their ends; on Order
 pub mod Recovery  -- a locked-out sensor always comes back; on Inside

@@ -28,6 +28,7 @@ impl Counts {
     }
 
     // Where a reading moves the trigger, before it is clamped.
+    #[tactic(auto, unfolding(crate::specs::Counts::moved_of))]
     fn moved(self, over: bool) -> i32
         ensures { result ≡ moved_of over self.trigger }
     {
@@ -39,6 +40,7 @@ impl Counts {
 
     // The counts' part of the Rust's `Rejection::update`: the trigger moves, is compared, and only then is clamped.
     // A reading is over the limit and not in startup, or it is good.
+    #[tactic(auto, unfolding(crate::specs::Counts::updated_of))]
     pub fn update(self, over: bool, timeout: i32) -> Updated
         ensures { result ≡ updated_of timeout self over }
     {

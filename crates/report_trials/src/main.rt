@@ -7,6 +7,11 @@ ghost use Rattle.std.specs.Prelude.{◌<◌, length};
 use course::Phase;
 use tally::Tally;
 
+// The descriptors of standard input and standard output.
+const STDIN: i32 = 0;
+
+const STDOUT: i32 = 1;
+
 // What reads a log: its replay, or its report, in which so many records are counted.
 #[derive(Clone, Copy)]
 enum Machine {
@@ -38,7 +43,7 @@ fn join(left: usize, part: &[u8], buffer: &mut [u8]) -> usize {
     if part.len() > buffer.len() - left {
         return left;
     }
-    bytes::copy(part, &mut buffer[left..]);
+    text::copy(part, &mut buffer[left..]);
     left + part.len()
 }
 
@@ -157,7 +162,7 @@ fn print(lines: &[u8], n: usize) -> bool {
     if n > lines.len() {
         return false;
     }
-    io::write_all(libc::STDOUT_FILENO, &lines[..n])
+    io::write_all(STDOUT, &lines[..n])
 }
 
 // Prints what a machine makes of a log, and whether that is the same however the log is cut.
@@ -214,6 +219,6 @@ fn try_all(input: &[u8]) {
 
 fn main() {
     let mut input = io::large_buffer();
-    let n = io::read_full(libc::STDIN_FILENO, &mut input);
+    let n = io::read_full(STDIN, &mut input);
     try_all(&input[..n]);
 }

@@ -34,6 +34,7 @@ impl Settings {
         self.convention <= 2
     }
 
+    #[tactic(auto, unfolding(crate::specs::Config::finite_settings))]
     pub fn is_finite(self) -> bool
         ensures { result ≡ finite_settings self }
     {
@@ -60,6 +61,7 @@ impl Settings {
     }
 
     // The limit in use: with gain or timeout 0.0 nothing is rejected.
+    #[tactic(auto, unfolding(crate::specs::Config::limit_of))]
     fn limit(self, limit: Limit) -> f32
         ensures { result ≡ limit_of self limit }
     {
@@ -70,6 +72,7 @@ impl Settings {
     }
 
     // The Rust's `Config::new`.
+    #[tactic(auto, unfolding(crate::specs::Config::derived_of))]
     pub fn derived(self) -> Config
         ensures { result ≡ derived_of self }
     {
@@ -90,6 +93,7 @@ impl Settings {
     }
 
     // The number of a start with these settings, 0 where it is accepted.
+    #[tactic(auto, unfolding(answer::specs::Refusals::refusal_of))]
     pub fn refusal(self) -> u8
         ensures { result ≡ refusal_of (settings_checks self) }
     {
@@ -110,6 +114,7 @@ impl Settings {
 }
 
 impl Config {
+    #[tactic(auto, unfolding(crate::specs::Config::finite_config))]
     pub fn is_finite(self) -> bool
         ensures { result ≡ finite_config self }
     {
@@ -122,6 +127,7 @@ impl Config {
     }
 
     // The axes on which the gyroscope is over its range.
+    #[tactic(auto, unfolding(crate::specs::Axes::over_of))]
     pub fn overrange(self, gyroscope: Vector) -> Axes
         ensures { result ≡ over_of self gyroscope }
     {

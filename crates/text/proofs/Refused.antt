@@ -4,7 +4,7 @@ use native.Mathlib.Omega.{arith}
 use mathlib.Core.Path.{◌≡◌, refl, ap, sym}
 use mathlib.Core.List.{List}
 use lib.ListN.{length}
-use Rattle.text.specs.Text.{decimal_of, refused_word, refused_of, last_line}
+use Rattle.text.specs.Text.{decimal_of, named_of, refused_word, refused_of, last_line}
 use Rattle.text.specs.Putting.{Puts, Fits}
 use Rattle.text.proofs.Putting.{puts_nothing, fits_put, put_fits, fits_as}
 use Rattle.text.proofs.Digits.{one, three}

@@ -3,13 +3,14 @@
 
 mod words; // words.rt: a line of four words
 
-ghost use Rattle.std.specs.Prelude.{◌≡◌, ◌%◌};
+ghost use Rattle.std.specs.Prelude.{◌≡◌, ◌≤◌, ◌%◌, length};
 ghost use Rattle.text.specs.Text.{digit_of, word_of, decimal_of, named_of, refused_of, last_line};
-ghost use Rattle.text.specs.Putting.{Fits};
+ghost use Rattle.text.specs.Putting.{Fits, Puts};
 
 pub use words::put_words;
 
 // The last hexadecimal digit of a number, upper case. A match is a table in memory, and takes fewer instructions than a test and a sum.
+#[tactic(auto, unfolding(crate::specs::Text::digit_of))]
 fn digit(n: u32) -> u8
     ensures { result ≡ digit_of (n % 16) }
 {
@@ -34,6 +35,7 @@ fn digit(n: u32) -> u8
 }
 
 // A word, highest digit first.
+#[tactic(auto, unfolding(crate::specs::Text::word_of))]
 pub fn word(n: u32) -> [u8; 8]
     ensures { result ≡ word_of n }
 {
@@ -49,6 +51,17 @@ pub fn word(n: u32) -> [u8; 8]
     ]
 }
 
+// Copies a text to the start of `out`, which has room for it; how many bytes it has.
+#[tactic(auto, unfolding(crate::specs::Putting::over))]
+pub fn copy(text: &[u8], out: &mut [u8]) -> usize
+    requires { length text.now ≤ length out.old }
+    ensures { Puts text.now out.old out.new result }
+{
+    let n = text.len();
+    out[..n].copy_from_slice(text);
+    n
+}
+
 // Puts a text at the start of `out` where that has room for it; how many bytes were put.
 fn put(text: &[u8], out: &mut [u8]) -> usize
     ensures { Fits text.now out.old out.new result }
@@ -56,7 +69,7 @@ fn put(text: &[u8], out: &mut [u8]) -> usize
     if text.len() > out.len() {
         return 0;
     }
-    bytes::copy(text, out)
+    copy(text, out)
 }
 
 // The digits of a number, no zero in front.
@@ -80,14 +93,15 @@ pub fn put_named(name: &[u8], number: u64, out: &mut [u8]) -> usize
     if out.len() - (k + 2) < name.len() {
         return 0;
     }
-    let n = bytes::copy(name, out);
+    let n = copy(name, out);
     out[n] = b' ';
-    bytes::copy(&digits[..k], &mut out[n + 1..]);
+    copy(&digits[..k], &mut out[n + 1..]);
     out[n + 1 + k] = b'\n';
     n + k + 2
 }
 
 // The line of a refusal.
+#[tactic(auto, unfolding(crate::specs::Text::refused_of, crate::specs::Text::named_of))]
 pub fn put_refused(number: u8, out: &mut [u8]) -> usize
     ensures { Fits (refused_of number) out.old out.new result }
 {

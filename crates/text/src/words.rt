@@ -3,7 +3,7 @@ ghost use Rattle.std.specs.Prelude.{◌≡◌};
 ghost use Rattle.text.specs.Text.{pair_of, words_of};
 ghost use Rattle.text.specs.Putting.{Fits};
 
-use super::word;
+use super::{copy, word};
 
 // Two words, one space apart, and what ends them.
 fn pair(a: u32, b: u32, end: u8) -> [u8; 18]
@@ -26,7 +26,7 @@ pub fn put_words(a: u32, b: u32, c: u32, d: u32, out: &mut [u8]) -> usize
     }
     let first = pair(a, b, b' ');
     let second = pair(c, d, b'\n');
-    bytes::copy(&first, out);
-    bytes::copy(&second, &mut out[18..]);
+    copy(&first, out);
+    copy(&second, &mut out[18..]);
     36
 }

@@ -6,6 +6,11 @@ ghost use Rattle.std.specs.Prelude.{◌<◌, length};
 
 use course::Phase;
 
+// The descriptors of standard input and standard output.
+const STDIN: i32 = 0;
+
+const STDOUT: i32 = 1;
+
 // The phase after some bytes, how many of them are left, and how many they printed.
 #[derive(Clone, Copy)]
 struct Run {
@@ -30,7 +35,7 @@ fn join(left: usize, part: &[u8], buffer: &mut [u8]) -> usize {
     if part.len() > buffer.len() - left {
         return left;
     }
-    bytes::copy(part, &mut buffer[left..]);
+    text::copy(part, &mut buffer[left..]);
     left + part.len()
 }
 
@@ -121,7 +126,7 @@ fn print(lines: &[u8], n: usize) -> bool {
     if n > lines.len() {
         return false;
     }
-    io::write_all(libc::STDOUT_FILENO, &lines[..n])
+    io::write_all(STDOUT, &lines[..n])
 }
 
 fn try_log(name: &[u8], log: &[u8]) -> bool {
@@ -169,6 +174,6 @@ fn try_all(input: &[u8]) {
 
 fn main() {
     let mut input = io::large_buffer();
-    let n = io::read_full(libc::STDIN_FILENO, &mut input);
+    let n = io::read_full(STDIN, &mut input);
     try_all(&input[..n]);
 }

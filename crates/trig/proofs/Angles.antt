@@ -11,7 +11,8 @@ use Rattle.trig.specs.Degrees.{lifted, wave_of, wave_at}
 use Rattle.trig.specs.Octant.{octant_of}
 use Rattle.trig.specs.Angle.{turns_to, straight, is_angle, Angled, nowhere, toward}
 use Rattle.trig.specs.Angle.{ordered, ratio_of, flat_steps_of, steep_steps_of, degrees_of, bearing_of, angle_of, Angles}
-use Rattle.trig.proofs.Octants.{Level, octant_level}
+use Rattle.trig.proofs.Octants.{Level}
+use Rattle.trig.proofs.Levels.{octant_level}
 use Rattle.trig.proofs.Eight.{flat_case, steep_case}
 use Rattle.trig.proofs.Ratios.{Ratio, ratio_gives}
 use Rattle.trig.proofs.Lifted.{Inside, Stands, flat_inside, steep_inside, degrees_stands, in_range, lifted_steps}
@@ -56,7 +57,8 @@ module _ (t : Bool) (n : ℕ) (d : ℤ) (s : Bool) (m : ℕ) (e : ℤ) (u : Bool
 -- ---- of any y and x that are finite
 
 module _ (p k : ℕ) (level : Level p k) where
-  flat_angle : (y x r : Float) → T (finite y) → T (finite x) → Stands (flat_steps_of (lt y float.zero) (lt x float.zero) k) r → Ratio (fabsf_of y) (fabsf_of x) p
+  flat_angle : (y x r : Float) → T (finite y) → T (finite x) → Stands (flat_steps_of (lt y float.zero) (lt x float.zero) k) r
+      → Ratio (fabsf_of y) (fabsf_of x) p
       → 0 < num x → num y * den x ≤ num x * den y → T (is_angle y x r)
   unfolding fabsf_of
   flat_angle nan x r f g v q a b = absurd f
@@ -67,7 +69,8 @@ module _ (p k : ℕ) (level : Level p k) where
   flat_angle (fin t n d) (fin s m e) (inf u) f g v q a b = absurd v
   flat_angle (fin t n d) (fin s m e) (fin u o i) f g v q a b = flat_finite t n d s m e u o i p k level v q a b
 
-  steep_angle : (y x r : Float) → T (finite y) → T (finite x) → Stands (steep_steps_of (lt y float.zero) (lt x float.zero) k) r → Ratio (fabsf_of x) (fabsf_of y) p
+  steep_angle : (y x r : Float) → T (finite y) → T (finite x) → Stands (steep_steps_of (lt y float.zero) (lt x float.zero) k) r
+      → Ratio (fabsf_of x) (fabsf_of y) p
       → 0 < num y → num x * den y ≤ num y * den x → T (is_angle y x r)
   unfolding fabsf_of
   steep_angle nan x r f g v q a b = absurd f

@@ -23,11 +23,11 @@ module _ (x v : Float) (exact : Fraction) {n : ℕ} (e : n ≡ refusal_of (angle
 
 -- f and g are the tests of y and of x
 module _ (y x : Float) {f g : Bool} (e : f ≡ finite y) (i : g ≡ finite x) where
-  pub refused_point : not (f && g) ≡ true → GivesAngle y x (Refused 5) × AnswersAngled y x (Refused 5)
-  refused_point h = (refuses value_said Refused (λ k. refl) _ _ refl (sym (fails 5 [] (two e i h))) (unlike 5 0 refl), tt)
+  pub refused_point : (f && g) ≡ false → GivesAngle y x (Refused 5) × AnswersAngled y x (Refused 5)
+  refused_point h = (refuses value_said Refused (λ k. refl) _ _ refl (sym (fails 5 [] (two e i (ap not h)))) (unlike 5 0 refl), tt)
 
-  pub answered_point : not (f && g) ≡ false → {r : Float} → r ≡ angle_of y x → (T (finite y) → T (finite x) → Angled y x r)
+  pub answered_point : (f && g) ≡ true → {r : Float} → r ≡ angle_of y x → (T (finite y) → T (finite x) → Angled y x r)
       → GivesAngle y x (Value r) × AnswersAngled y x (Value r)
   answered_point h d near =
       let p = each_finite y x e i h in
-      (gives value_said Refused (λ k. refl) _ _ refl (sym (passes 5 [] (two e i h) ∙ all_pass)) refl (ap Value d), near p.0 p.1)
+      (gives value_said Refused (λ k. refl) _ _ refl (sym (passes 5 [] (two e i (ap not h)) ∙ all_pass)) refl (ap Value d), near p.0 p.1)

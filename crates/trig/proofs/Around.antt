@@ -1,5 +1,6 @@
 -- How far a fixed-point number is from the fraction that it stands for, and how far a stage's result is. Nothing here is about angles. Assumes nothing.
-use Rattle.std.proofs.Common.{◌≡◌, ℕ, ◌+◌, ◌-◌, ◌*◌, ◌/◌, ◌<◌, ◌≤◌, ap, le_of_lt, mul-le-mul_right, mul-le-mul, mul-le-mul_left, mul-pos, div-mul-le_self, arith}
+use Rattle.std.proofs.Common.{◌≡◌, ℕ, ◌+◌, ◌-◌, ◌*◌, ◌/◌, ◌<◌, ◌≤◌, ap, le_of_lt, mul-le-mul_right, mul-le-mul, mul-le-mul_left, mul-pos, div-mul-le_self}
+use Rattle.std.proofs.Common.{arith}
 use native.Mathlib.Nat.{le_of_mul-le-mul_left}
 use native.Mathlib.Nat.{div-le_of_le-mul, lt-div-mul-add}
 

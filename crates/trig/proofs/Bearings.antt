@@ -1,8 +1,8 @@
 -- Which of its cases the angle takes, from the tests that led to it; and what its returns have to show. Assumes nothing.
-use Rattle.std.proofs.Common.{◌≡◌, ℕ, Bool, true, false, not, ◌&&◌, T, sym, ◌∙◌, subst}
+use Rattle.std.proofs.Common.{◌≡◌, ℕ, Bool, true, false, ◌&&◌, T, sym, ◌∙◌, subst}
 use lib.Ieee.{Float, nan, lt}
 use lib.Ieee.Scale.{finite}
-use Rattle.answer.proofs.Tests.{both, untrue, still, two}
+use Rattle.answer.proofs.Tests.{both}
 use Rattle.number.specs.Float32 as float
 use Rattle.number.specs.Same.{fabsf_of}
 use Rattle.trig.specs.Octant.{octant_of}
@@ -42,17 +42,17 @@ module _ (y x : Float) {a b : Float} (ey : a ≡ fabsf_of y) (ex : b ≡ fabsf_o
 
 -- f and g are the tests of y and of x
 module _ (y x : Float) {f g : Bool} (e : f ≡ finite y) (i : g ≡ finite x) where
-  pub each_finite : not (f && g) ≡ false → T (finite y) × T (finite x)
-  each_finite h = let p = both (finite y) (finite x) (still _ (two e i h)) in (is_so p.0, is_so p.1)
+  pub each_finite : (f && g) ≡ true → T (finite y) × T (finite x)
+  each_finite h = let p = both (finite y) (finite x) (rw (e, i) at h) in (is_so p.0, is_so p.1)
 
   -- what is `angle_of y x` is an angle of them
   shows : {r : Float} → r ≡ angle_of y x → (r ≡ angle_of y x) × (T (finite y) → T (finite x) → Angled y x r)
   shows d = (d, λ s t. subst (λ (z : Float). Angled y x z) (sym d) (angle.angles y x s t))
 
-  pub finite_is : not (f && g) ≡ false → {r : Float} → r ≡ bearing_of y x → (r ≡ angle_of y x) × (T (finite y) → T (finite x) → Angled y x r)
+  pub finite_is : (f && g) ≡ true → {r : Float} → r ≡ bearing_of y x → (r ≡ angle_of y x) × (T (finite y) → T (finite x) → Angled y x r)
   unfolding angle_of
-  finite_is h d = let b : (finite y && finite x) ≡ true = still _ (two e i h) in shows (d ∙ rw b)
+  finite_is h d = let b : (finite y && finite x) ≡ true = rw (e, i) at h in shows (d ∙ rw b)
 
-  pub other_is : not (f && g) ≡ true → (nan ≡ angle_of y x) × (T (finite y) → T (finite x) → Angled y x nan)
+  pub other_is : (f && g) ≡ false → (nan ≡ angle_of y x) × (T (finite y) → T (finite x) → Angled y x nan)
   unfolding angle_of
-  other_is h = let b : (finite y && finite x) ≡ false = untrue _ (two e i h) in shows (rw b)
+  other_is h = let b : (finite y && finite x) ≡ false = rw (e, i) at h in shows (rw b)

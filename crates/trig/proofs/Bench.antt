@@ -67,7 +67,8 @@ limits
     : T
     (gives rejection_threshold_of 0 0x7f7f_ffff && gives rejection_threshold_of 0x8000_0000 0x7f7f_ffff && gives rejection_threshold_of 0x4120_0000 0x3bf7_04df
     && gives rejection_threshold_of 0x41f0_0000 0x3d80_0000 && gives rejection_threshold_of 0x42b4_0000 0x3e80_0000)
-unfolding rejection_threshold_of sin_of slope_of float_of size_of minus_of grid_of radians_of sine_fixed_of cosine_fixed_of per_degree_of scaled_of stage_of turns left
+unfolding rejection_threshold_of sin_of slope_of float_of size_of minus_of grid_of radians_of sine_fixed_of cosine_fixed_of per_degree_of scaled_of
+    stage_of turns left
     left_minus fabsf_of le lt eq neg add sum mul div round units odd of_int of_bits to_bits
 limits = tt
 
@@ -102,7 +103,8 @@ port_angles
     (points 0 0 0 && points 0x8000_0000 0 0 && points 0 0x8000_0000 0 && points 0x8000_0000 0x8000_0000 0 && points 0 0xbf80_0000 0x4334_0000
     && points 0x8000_0000 0xbf80_0000 0x4334_0000 && points 0x3f80_0000 0 0x42b4_0000 && points 0xbf80_0000 0 0xc2b4_0000
     && points 0x3f80_0000 0x3f80_0000 0x4234_0000 && points 0xbf80_0000 0xbf80_0000 0xc307_0000 && points 0x3f80_0000 0x4000_0000 0x41d4_8538)
-unfolding angle_of bearing_of degrees_of ratio_of octant_of guess_of sine_step cosine_step steps_of radians_of sine_fixed_of cosine_fixed_of scaled_of stage_of fabsf_of
+unfolding angle_of bearing_of degrees_of ratio_of octant_of guess_of sine_step cosine_step steps_of radians_of sine_fixed_of cosine_fixed_of
+    scaled_of stage_of fabsf_of
     le lt eq neg div round units odd of_int of_bits to_bits
 port_angles = tt
 
@@ -112,11 +114,13 @@ port_ends
     (points 1 1 0x4234_0000 && points 1 2 0x41d4_8538 && points 0x8000_0001 0x8000_0002 0xc319_6f59 && points 0x7f7f_ffff 0x7f7f_ffff 0x4234_0000
     && points 1 0xff7f_ffff 0x4334_0000 && points 0x8000_0001 0xff7f_ffff 0x4334_0000 && points 0x7f7f_ffff 1 0x42b4_0000
     && points 0x7f80_0000 0x3f80_0000 0x7fc0_0000 && points 0x3f80_0000 0x7fc0_0000 0x7fc0_0000)
-unfolding angle_of bearing_of degrees_of ratio_of octant_of guess_of sine_step cosine_step steps_of radians_of sine_fixed_of cosine_fixed_of scaled_of stage_of fabsf_of
+unfolding angle_of bearing_of degrees_of ratio_of octant_of guess_of sine_step cosine_step steps_of radians_of sine_fixed_of cosine_fixed_of
+    scaled_of stage_of fabsf_of
     le lt eq neg div round units odd of_int of_bits to_bits
 port_ends = tt
 
 -- the bisection at the tangents 0, a half and 1
-bisections : T (eqb (nearer_of 0 (span_of 0 22)) 0 && eqb (nearer_of 8388608 (span_of 8388608 22)) 1740967 && eqb (nearer_of 16777216 (span_of 16777216 22)) 2949120)
+bisections : T (eqb (nearer_of 0 (span_of 0 22)) 0 && eqb (nearer_of 8388608 (span_of 8388608 22)) 1740967
+    && eqb (nearer_of 16777216 (span_of 16777216 22)) 2949120)
 unfolding nearer_of span_of halved_of sine_step cosine_step radians_of sine_fixed_of cosine_fixed_of scaled_of stage_of
 bisections = tt

@@ -1,5 +1,6 @@
 -- A float in the range, on the grid of 2 ^ -26 degrees: less than a step off, and exact unless it is below 1 in size. Assumes nothing.
-use Rattle.std.proofs.Common.{◌≡◌, ℕ, suc, ◌+◌, ◌-◌, ◌*◌, ◌/◌, ◌^◌, ◌<◌, ◌≤◌, Bool, true, false, T, ◌⊎◌, ℤ, pos, negsuc, sym, ap, ◌∙◌, inl, inr, le_of_lt, mul_assoc, mul-one, div-mul-le_self, le_of_mul-le-mul_right, div-one, mul-div_cancel, arith, pow_pos, pow_mono, pow-add}
+use Rattle.std.proofs.Common.{◌≡◌, ℕ, suc, ◌+◌, ◌-◌, ◌*◌, ◌/◌, ◌^◌, ◌<◌, ◌≤◌, Bool, true, false, T, ◌⊎◌, ℤ, pos, negsuc, sym, ap, ◌∙◌, inl, inr, le_of_lt}
+use Rattle.std.proofs.Common.{mul_assoc, mul-one, div-mul-le_self, le_of_mul-le-mul_right, div-one, mul-div_cancel, arith, pow_pos, pow_mono, pow-add}
 use native.Mathlib.Nat.{lt-div-mul-add}
 use lib.Ieee.{fin, binary32, up, down, fits}
 use lib.Ieee.Fits.{down_pos}

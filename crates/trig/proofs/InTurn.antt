@@ -1,5 +1,6 @@
 -- The range of the sine and the cosine is up to 360 in size; the angle of finite y and x is in it, and it is an f32. Assumes nothing.
-use Rattle.std.proofs.Common.{ℕ, ◌+◌, ◌-◌, ◌*◌, ◌≤◌, Bool, true, false, cond, ◌&&◌, ◌||◌, T, eqb, ltb, pos, sym, subst, inl, inr, le_of_eq, eq-or-lt_of_le, arith, ltb→lt, lt→ltb, lt-ltb, eq-eqb}
+use Rattle.std.proofs.Common.{ℕ, ◌+◌, ◌-◌, ◌*◌, ◌≤◌, Bool, true, false, cond, ◌&&◌, ◌||◌, T, eqb, ltb, pos, sym, subst, inl, inr, le_of_eq, eq-or-lt_of_le}
+use Rattle.std.proofs.Common.{arith, ltb→lt, lt→ltb, lt-ltb, eq-eqb}
 use lib.Ieee.{Float, nan, inf, fin, binary32, fits, of_bits, up, down, neg, lt, le, eq}
 use lib.Ieee.Bits.{of_bits-fits}
 use lib.Ieee.Fits.{and_i, and_l, and_r, down_pos, cond-fits, nan-fits, neg-fits, div-fits}

@@ -1,8 +1,10 @@
 -- in reading order
 pub mod Around  -- a fixed-point number near a fraction, and what a stage of a nested series adds to what it is off
 pub mod Powers  -- powers as products of squares
-pub mod Nested  -- the nested products are 02's power series; on Powers
+pub mod Terms  -- the terms of the nested products, and of 02's power series
+pub mod Nested  -- the nested products are 02's power series; on Powers and Terms
 pub mod Series  -- the fixed-point series are within a few units of 02's; on Around and Nested
+pub mod Turns  -- the nearest multiple of 90 degrees
 pub mod Reduce  -- the nearest multiple of 90 degrees, and that the grid is reduced as the exact angle is
 pub mod Quarter  -- size and sign on the grid, against the reference; on Series and Reduce
 pub mod Steps  -- a float is cut to steps of the grid
@@ -16,6 +18,7 @@ pub mod Limited  -- the squared limit is finite and not below 0; on Rounding and
 pub mod Neighbours  -- how far the fixed-point sine and cosine move from one step to the next; on Series and Quarter
 pub mod Search  -- the bisection keeps the tangent between its ends, and leaves one step
 pub mod Octants  -- the angle that is found has nearly the tangent; on Neighbours and Search
+pub mod Levels  -- so what is found is at most 45 degrees, and level
 pub mod Tangent  -- the angle's error budget; on Quarter and Octants
 pub mod Place  -- where an angle stands that is so many steps from a quarter turn; on Series, Reduce and Quarter
 pub mod Stood  -- how near its sine and cosine are, and their signs; on Place

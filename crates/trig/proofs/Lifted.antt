@@ -1,5 +1,6 @@
 -- So many steps less 360 degrees, as a float: exact, above -180 and at most 180, and where it stands 360 degrees on. Assumes nothing.
-use Rattle.std.proofs.Common.{◌≡◌, ℕ, zero, suc, ◌+◌, ◌-◌, ◌*◌, ◌<◌, ◌≤◌, Bool, true, false, cond, ◌&&◌, T, ltb, ℤ, pos, sym, refl, ap, true≢false, mul-le-mul_right, arith, lit≤, lt→ltb, ltb-false, ltb-true}
+use Rattle.std.proofs.Common.{◌≡◌, ℕ, zero, suc, ◌+◌, ◌-◌, ◌*◌, ◌<◌, ◌≤◌, Bool, true, false, cond, ◌&&◌, T, ltb, ℤ, pos, sym, refl, ap, true≢false}
+use Rattle.std.proofs.Common.{mul-le-mul_right, arith, lit≤, lt→ltb, ltb-false, ltb-true}
 use lib.Ieee.{Float, nan, inf, fin, binary32, of_bits, up, down, neg, div, lt, le, eq}
 use lib.Ieee.Exact.{HasValue}
 use lib.Ieee.Fits.{and_i, down_pos}
@@ -47,7 +48,8 @@ pub degrees_stands : (steps : ℕ) → Inside steps → Stands steps (degrees_of
 unfolding degrees_of of_bits
 degrees_stands steps i = by_test (ltb steps full_turn) refl
   where
-    by_test : (b : Bool) → ltb steps full_turn ≡ b → HasValue (cond b (neg (over (full_turn - steps))) (over (steps - full_turn))) b (apart steps full_turn) 65536
+    by_test : (b : Bool) → ltb steps full_turn ≡ b
+        → HasValue (cond b (neg (over (full_turn - steps))) (over (steps - full_turn))) b (apart steps full_turn) 65536
     by_test true h =
         let l = ltb-true steps full_turn h in
         let e : apart steps full_turn ≡ full_turn - steps = omega arith in

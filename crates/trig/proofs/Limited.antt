@@ -1,5 +1,6 @@
 -- The squared limit of every angle in the range is finite and not below 0: the sine is at most 1, but for its rounding. Assumes nothing.
-use Rattle.std.proofs.Common.{◌≡◌, ℕ, ◌+◌, ◌*◌, ◌/◌, ◌<◌, ◌≤◌, Bool, true, false, cond, T, ◌⊎◌, sym, refl, inl, inr, true≢false, le_trans, le_refl, mul-le-mul_right, mul-le-mul, mul-pos, div-mul-le_self, le_of_mul-le-mul_right, arith, lit<, lit≤, le-ltb}
+use Rattle.std.proofs.Common.{◌≡◌, ℕ, ◌+◌, ◌*◌, ◌/◌, ◌<◌, ◌≤◌, Bool, true, false, cond, T, ◌⊎◌, sym, refl, inl, inr, true≢false, le_trans, le_refl}
+use Rattle.std.proofs.Common.{mul-le-mul_right, mul-le-mul, mul-pos, div-mul-le_self, le_of_mul-le-mul_right, arith, lit<, lit≤, le-ltb}
 use native.Mathlib.Nat.{lt-div-mul-add}
 use lib.Ieee.{Float, nan, inf, fin, binary32, of_bits, up, down, unlike, round, mul, lt, eq}
 use lib.Ieee.Bits.{is_true}

@@ -1,12 +1,13 @@
 -- How far the fixed-point sine and cosine move from one step of 2 ^ -16 degrees to the next. Assumes nothing.
-use Rattle.std.proofs.Common.{ℕ, ◌+◌, ◌-◌, ◌*◌, ◌/◌, ◌<◌, ◌≤◌, List, [], ◌∷◌, le_trans, le_of_eq, le_refl, mul-le-mul_right, mul-le-mul_left, mul-pos, arith, lit<, lit≤}
+use Rattle.std.proofs.Common.{ℕ, ◌+◌, ◌-◌, ◌*◌, ◌/◌, ◌<◌, ◌≤◌, List, [], ◌∷◌, le_trans, le_of_eq, le_refl, mul-le-mul_right, mul-le-mul_left, mul-pos, arith}
+use Rattle.std.proofs.Common.{lit<, lit≤}
 use native.Mathlib.Nat.{add-mul-div_right}
 use lib.Ieee.Nearest.{div_mono}
 use Rattle.trig.specs.Fixed.{one, scaled_of, stage_of, sine_fixed_of, cosine_fixed_of}
 use Rattle.trig.specs.Wave.{pi_over180, two_to33, radians_of}
 use Rattle.trig.specs.Octant.{tangent_one, most, sine_step, cosine_step, rise_of, run_of}
 use Rattle.trig.proofs.Around.{cut_fixed}
-use Rattle.trig.proofs.Nested.{sines}
+use Rattle.trig.proofs.Terms.{sines}
 use Rattle.trig.proofs.Series.{nested}
 use Rattle.trig.proofs.Quarter.{radians_small}
 

@@ -1,61 +1,9 @@
 -- The nested products that the code works out are document 02's power series, over the same whole numbers. Assumes nothing.
-use Rattle.std.proofs.Common.{◌≡◌, ℕ, ◌+◌, ◌-◌, ◌*◌, ◌<◌, ◌≤◌, List, [], ◌∷◌, ap, le_refl, arith, lit<}
+use Rattle.std.proofs.Common.{◌≡◌, ℕ, ◌+◌, ◌-◌, ◌*◌, ◌<◌, ◌≤◌, List, [], ◌∷◌, le_refl, arith, lit<}
 use Rattle.trig.specs.Series.{sine_num, sine_den, cosine_num, cosine_den}
 use Rattle.trig.proofs.Around.{product_le}
+use Rattle.trig.proofs.Terms.{bot, top, sines, cosines, sine_terms, cosine_terms, fives, cosine_fives}
 use Rattle.trig.proofs.Powers.{pow2, pow3, pow4, pow5, pow6, pow7, pow8, pow9, pow10, pow11}
-
--- n₁ to n₅ are the numerators of the stages, from the outermost in, at v = t * t and w = q * q
-module _ (t v w n₁ n₂ n₃ n₄ n₅ : ℕ) where
-  sine_terms :
-      n₅ + v * 1 ≡ 110 * w * 1 →
-      n₄ + v * n₅ ≡ 72 * w * (110 * w * 1) →
-      n₃ + v * n₄ ≡ 42 * w * (72 * w * (110 * w * 1)) →
-      n₂ + v * n₃ ≡ 20 * w * (42 * w * (72 * w * (110 * w * 1))) →
-      n₁ + v * n₂ ≡ 6 * w * (20 * w * (42 * w * (72 * w * (110 * w * 1)))) →
-      t * n₁ + (6652800 * (t * v) * (w * w * w * w) + 7920 * (t * v * v * v) * (w * w) + t * v * v * v * v * v)
-      ≡ 39916800 * t * (w * w * w * w * w) + 332640 * (t * v * v) * (w * w * w) + 110 * (t * v * v * v * v) * w
-  sine_terms e₅ e₄ e₃ e₂ e₁ =
-      omega (
-        arith,
-        ap (λ (z : ℕ). t * z) e₁,
-        ap (λ (z : ℕ). t * v * z) e₂,
-        ap (λ (z : ℕ). t * v * v * z) e₃,
-        ap (λ (z : ℕ). t * v * v * v * z) e₄,
-        ap (λ (z : ℕ). t * v * v * v * v * z) e₅,
-      )
-
-  cosine_terms :
-      n₅ + v * 1 ≡ 90 * w * 1 →
-      n₄ + v * n₅ ≡ 56 * w * (90 * w * 1) →
-      n₃ + v * n₄ ≡ 30 * w * (56 * w * (90 * w * 1)) →
-      n₂ + v * n₃ ≡ 12 * w * (30 * w * (56 * w * (90 * w * 1))) →
-      n₁ + v * n₂ ≡ 2 * w * (12 * w * (30 * w * (56 * w * (90 * w * 1)))) →
-      n₁ + (1814400 * v * (w * w * w * w) + 5040 * (v * v * v) * (w * w) + v * v * v * v * v)
-      ≡ 3628800 * (w * w * w * w * w) + 151200 * (v * v) * (w * w * w) + 90 * (v * v * v * v) * w
-  cosine_terms e₅ e₄ e₃ e₂ e₁ =
-      omega (
-        arith,
-        e₁,
-        ap (λ (z : ℕ). v * z) e₂,
-        ap (λ (z : ℕ). v * v * z) e₃,
-        ap (λ (z : ℕ). v * v * v * z) e₄,
-        ap (λ (z : ℕ). v * v * v * v * z) e₅,
-      )
-
--- The fraction top / bot of the nested series 1 - v / (c * w) * (1 - ...), whose divisors are listed from the outermost in.
-abbrev pub bot : ℕ → List ℕ → ℕ
-bot w [] = 1
-bot w (c ∷ cs) = c * w * bot w cs
-
-abbrev pub top : ℕ → ℕ → List ℕ → ℕ
-top v w [] = 1
-top v w (c ∷ cs) = c * w * bot w cs - v * top v w cs
-
-abbrev pub sines : List ℕ
-sines = 6 ∷ 20 ∷ 42 ∷ 72 ∷ 110 ∷ []
-
-abbrev pub cosines : List ℕ
-cosines = 2 ∷ 12 ∷ 30 ∷ 56 ∷ 90 ∷ []
 
 -- the value is at most 1, so no difference is cut
 pub top_le : (v w : ℕ) (cs : List ℕ) → top v w cs ≤ bot w cs
@@ -85,9 +33,9 @@ module _ (t q : ℕ) (h : t * t ≤ q * q) where
   sine_series =
       simp (pow2, pow3, pow4, pow5, pow6, pow7, pow8, pow9, pow10, pow11)
       (left_over _ _ _
-      (sine_terms t (t * t) (q * q) (n (6 ∷ 20 ∷ 42 ∷ 72 ∷ 110 ∷ [])) (n (20 ∷ 42 ∷ 72 ∷ 110 ∷ [])) (n (42 ∷ 72 ∷ 110 ∷ [])) (n (72 ∷ 110 ∷ [])) (n (110 ∷ []))
+      (sine_terms t (t * t) (q * q) (n sines) (n (20 ∷ 42 ∷ 72 ∷ 110 ∷ [])) (n (42 ∷ 72 ∷ 110 ∷ [])) (n (72 ∷ 110 ∷ [])) (n (110 ∷ []))
       (at 110 [] (lit< tt)) (at 72 (110 ∷ []) (lit< tt)) (at 42 (72 ∷ 110 ∷ []) (lit< tt)) (at 20 (42 ∷ 72 ∷ 110 ∷ []) (lit< tt))
-      (at 6 (20 ∷ 42 ∷ 72 ∷ 110 ∷ []) (lit< tt))))
+      (at _ (20 ∷ 42 ∷ 72 ∷ 110 ∷ []) (lit< tt))))
 
   pub cosine_series : top (t * t) (q * q) cosines ≡ cosine_num t q
   unfolding cosine_num n
@@ -97,12 +45,6 @@ module _ (t q : ℕ) (h : t * t ≤ q * q) where
       (cosine_terms t (t * t) (q * q) (n (2 ∷ 12 ∷ 30 ∷ 56 ∷ 90 ∷ [])) (n (12 ∷ 30 ∷ 56 ∷ 90 ∷ [])) (n (30 ∷ 56 ∷ 90 ∷ [])) (n (56 ∷ 90 ∷ [])) (n (90 ∷ []))
       (at 90 [] (lit< tt)) (at 56 (90 ∷ []) (lit< tt)) (at 30 (56 ∷ 90 ∷ []) (lit< tt)) (at 12 (30 ∷ 56 ∷ 90 ∷ []) (lit< tt))
       (at 2 (12 ∷ 30 ∷ 56 ∷ 90 ∷ []) (lit< tt))))
-
-fives : (w : ℕ) → 6 * w * (20 * w * (42 * w * (72 * w * (110 * w * 1)))) ≡ 39916800 * (w * w * w * w * w)
-fives w = omega arith
-
-cosine_fives : (w : ℕ) → 2 * w * (12 * w * (30 * w * (56 * w * (90 * w * 1)))) ≡ 3628800 * (w * w * w * w * w)
-cosine_fives w = omega arith
 
 pub sine_bottom : (q : ℕ) → q * bot (q * q) sines ≡ sine_den q
 unfolding sine_den

@@ -1,5 +1,6 @@
 -- The angle that is found has nearly the tangent: the guess where the test says so, and else the nearer end of one step. Assumes nothing.
-use Rattle.std.proofs.Common.{◌≡◌, ℕ, ◌+◌, ◌-◌, ◌*◌, ◌<◌, ◌≤◌, Bool, true, false, cond, T, leb, sym, refl, ◌∙◌, subst, arith, le→leb, leb→le, le-leb, leb-false, leb-true}
+use Rattle.std.proofs.Common.{◌≡◌, ℕ, ◌+◌, ◌-◌, ◌*◌, ◌<◌, ◌≤◌, Bool, true, false, cond, T, leb, sym, refl, subst, arith, le→leb, leb→le, le-leb, leb-false}
+use Rattle.std.proofs.Common.{leb-true}
 use lib.Ieee.Fits.{and_i, and_l, and_r}
 use borrow.Author.Tests.{lt-leb}
 use Rattle.trig.specs.declared.octant.Span.{Span}
@@ -14,7 +15,7 @@ pub record Level (p n : ℕ) : Type 0 where
   pub over : run_of p n ≤ rise_of n + off
   pub under : rise_of n ≤ run_of p n + off
 
-level : (p n : ℕ) → T (is_level p n) → Level p n
+pub level : (p n : ℕ) → T (is_level p n) → Level p n
 level p n t =
     let a = leb→le n most (and_l (leb n most) (leb (apart (rise_of n) (run_of p n)) off) t) in
     let b = leb→le (apart (rise_of n) (run_of p n)) off (and_r (leb n most) (leb (apart (rise_of n) (run_of p n)) off) t) in
@@ -51,6 +52,10 @@ module _ (p : ℕ) (P : p ≤ tangent_one) (s : Span) (b : Between p s) (step : 
   unfolding nearer_of
   nearer_level = by_test (leb (short p s) (past p s)) refl
 
+-- the nearer end is at most 45 degrees
+pub nearer_small : (p : ℕ) → p ≤ tangent_one → nearer_of p (bisected_of p) ≤ most
+nearer_small p P = (nearer_level p P (span_of p 22) (spanned p 22 P).between (one_step p P)).small
+
 pub leveled : Leveled
 unfolding octant_of
 leveled p P = by_test (is_level p (guess_of p)) refl
@@ -61,9 +66,6 @@ leveled p P = by_test (is_level p (guess_of p)) refl
     by_test : (t : Bool) → is_level p (guess_of p) ≡ t → T (is_level p (cond t (guess_of p) (nearer_of p (bisected_of p))))
     by_test true e = subst T (sym e) tt
     by_test false e = bisected_level
-
-pub octant_level : (p : ℕ) → p ≤ tangent_one → Level p (octant_of p)
-octant_level p P = level p (octant_of p) (leveled p P)
 
 -- ---- what the calls come to
 
@@ -80,12 +82,3 @@ module _ (p : ℕ) (s : Span) {a b c d : ℕ} (run-lo : a ≡ run_of p s.lo) (ri
   pub takes_hi : c + 2 * tangent_one - d < a - b → s.hi ≡ nearer_of p s
   unfolding nearer_of
   takes_hi h = rw (lt-leb (short p s) (past p s) (rw (run-lo, rise-lo, rise-hi, run-hi) at h))
-
-module _ (p : ℕ) {n : ℕ} {b : Bool} (guess : n ≡ guess_of p) (test : b ≡ is_level p n) where
-  pub takes_guess : b ≡ true → n ≡ octant_of p
-  unfolding octant_of
-  takes_guess h = rw (← guess, ← test, h)
-
-  pub takes_bisected : b ≡ false → {r : ℕ} → r ≡ nearer_of p (bisected_of p) → r ≡ octant_of p
-  unfolding octant_of
-  takes_bisected h f = f ∙ rw (← guess, ← test, h)

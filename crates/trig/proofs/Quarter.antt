@@ -1,5 +1,6 @@
 -- The size that is worked out on the grid is within 6 units of 2 ^ -30 of the exact reference, and the sign is its own. Assumes nothing.
-use Rattle.std.proofs.Common.{◌≡◌, ℕ, ◌+◌, ◌-◌, ◌*◌, ◌/◌, ◌%◌, ◌^◌, ◌<◌, ◌≤◌, Bool, true, false, cond, eqb, ltb, leb, ◌⊎◌, refl, inl, inr, le_trans, le_of_lt, mul-le-mul_right, mul-le-mul, div-mul-le_self, le_of_mul-le-mul_right, arith, lit<, eq-eqb, ne_eqb}
+use Rattle.std.proofs.Common.{◌≡◌, ℕ, ◌+◌, ◌-◌, ◌*◌, ◌/◌, ◌%◌, ◌^◌, ◌<◌, ◌≤◌, Bool, true, false, cond, eqb, ltb, leb, ◌⊎◌, refl, inl, inr, le_trans, le_of_lt}
+use Rattle.std.proofs.Common.{mul-le-mul_right, mul-le-mul, div-mul-le_self, le_of_mul-le-mul_right, arith, lit<, eq-eqb, ne_eqb}
 use native.Mathlib.Nat.{div-le_of_le-mul, lt-div-mul-add}
 use lib.Ieee.{unlike}
 use Rattle.trig.specs.Series.{cosine_num, cosine_den}
@@ -142,7 +143,8 @@ cosine_wide d h = last_stage _ _ (square_most (radians_of d) (radians_most d h))
 -- ---- what the calls of `rounded` come to, at an even and at an odd quarter
 
 module _ (k y a t v : ℕ) (at : a ≡ turns y degree) (rest : t ≡ rest_of y) where
-  pub even_wave : (a + k) % 2 ≡ 0 → v ≡ sine_fixed_of t → float_of (unlike (ltb y (a * (90 * degree))) (back_of (a + k))) v ≡ float_of (minus_of k y) (size_of k y)
+  pub even_wave : (a + k) % 2 ≡ 0 → v ≡ sine_fixed_of t
+      → float_of (unlike (ltb y (a * (90 * degree))) (back_of (a + k))) v ≡ float_of (minus_of k y) (size_of k y)
   unfolding minus_of size_of left_minus
   even_wave e s = rw (eq-eqb ((turns y degree + k) % 2) 0 (rw at at e), s, rest, at)
 

@@ -1,6 +1,8 @@
 -- A quotient that is at most 1, rounded to a float and cut to steps of 2 ^ -24, is within a step: the rounding keeps the order, and keeps a whole number of
 -- steps as it is, so the rounded quotient lies between the two whole numbers of steps around the exact one. Assumes nothing.
-use Rattle.std.proofs.Common.{◌≡◌, ℕ, ◌+◌, ◌*◌, ◌/◌, ◌^◌, ◌<◌, ◌≤◌, min, Bool, true, false, cond, ◌&&◌, ◌||◌, T, eqb, ltb, leb, ◌⊎◌, ℤ, pos, refl, ap, inl, inr, true≢false, zero-le, le_of_eq, le_of_lt, mul-le-mul_right, eq-or-lt_of_le, mul-pos, le-div_iff_mul-le, div-mul-le_self, le_of_mul-le-mul_right, arith, lit<, lit≤, ltb→lt, lt→ltb, leb→le, ltb-false, lt-ltb, eq-eqb, ne_eqb}
+use Rattle.std.proofs.Common.{◌≡◌, ℕ, ◌+◌, ◌*◌, ◌/◌, ◌^◌, ◌<◌, ◌≤◌, min, Bool, true, false, cond, ◌&&◌, ◌||◌, T, eqb, ltb, leb, ◌⊎◌, ℤ, pos, refl, ap, inl, inr}
+use Rattle.std.proofs.Common.{true≢false, zero-le, le_of_eq, le_of_lt, mul-le-mul_right, eq-or-lt_of_le, mul-pos, le-div_iff_mul-le, div-mul-le_self}
+use Rattle.std.proofs.Common.{le_of_mul-le-mul_right, arith, lit<, lit≤, ltb→lt, lt→ltb, leb→le, ltb-false, lt-ltb, eq-eqb, ne_eqb}
 use native.Mathlib.Nat.{lt-div-mul-add, div-le_of_le-mul}
 use lib.Ieee.{Float, nan, inf, fin, binary32, of_bits, up, down, round, div, neg, lt, le, eq}
 use lib.Ieee.Exact.{HasValue}

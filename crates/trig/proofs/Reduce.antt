@@ -1,22 +1,11 @@
 -- `turns` is the nearest multiple of 90 degrees, and an angle on the grid of 2 ^ -26 degrees is reduced as the exact one is. Assumes nothing.
-use Rattle.std.proofs.Common.{◌≡◌, ℕ, ◌+◌, ◌-◌, ◌*◌, ◌<◌, ◌≤◌, Bool, true, false, ltb, ◌⊎◌, sym, refl, ◌∙◌, inl, inr, le_of_lt, mul-le-mul_right, mul_comm, add-mul, lt_of_mul-lt-mul_right, div-mul-le_self, le_of_mul-le-mul_right, arith, lit<, ltb-false, ltb-true, le-ltb, lt-ltb}
+use Rattle.std.proofs.Common.{◌≡◌, ℕ, ◌+◌, ◌-◌, ◌*◌, ◌<◌, ◌≤◌, Bool, true, false, ltb, ◌⊎◌, sym, refl, ◌∙◌, inl, inr, le_of_lt, mul-le-mul_right, mul_comm}
+use Rattle.std.proofs.Common.{add-mul, lt_of_mul-lt-mul_right, le_of_mul-le-mul_right, arith, lit<, ltb-false, ltb-true, le-ltb, lt-ltb}
 use native.Mathlib.Nat.{mul-sub}
-use native.Mathlib.Nat.{lt-div-mul-add, div-eq_of_lt-le}
+use native.Mathlib.Nat.{div-eq_of_lt-le}
 use Rattle.trig.specs.Degrees.{apart, turns, left, left_minus, NearestMultiple}
 use Rattle.trig.specs.Wave.{degree}
-
--- turns is the one k with 90 * k - 45 < y / b ≤ 90 * k + 45
-pub turns_over : (y b : ℕ) → 0 < b → turns y b * (90 * b) < y + 45 * b
-unfolding turns
-turns_over y b B =
-    let s = div-mul-le_self (y + 45 * b - 1) (90 * b) in
-    omega arith
-
-pub turns_under : (y b : ℕ) → 0 < b → y ≤ turns y b * (90 * b) + 45 * b
-unfolding turns
-turns_under y b B =
-    let s = lt-div-mul-add {a = y + 45 * b - 1} {b = 90 * b} (omega arith) in
-    omega arith
+use Rattle.trig.proofs.Turns.{turns_over, turns_under}
 
 pub nearest_multiple : NearestMultiple
 nearest_multiple y b B = (turns_over y b B, turns_under y b B)

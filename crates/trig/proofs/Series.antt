@@ -3,7 +3,8 @@ use Rattle.std.proofs.Common.{ℕ, ◌-◌, ◌*◌, ◌/◌, ◌≤◌, List, [
 use Rattle.trig.specs.Fixed.{one, scaled_of, stage_of, sine_fixed_of, cosine_fixed_of}
 use Rattle.trig.specs.Series.{sine_num, sine_den, cosine_num, cosine_den}
 use Rattle.trig.proofs.Around.{Around, Stage, times, stage, cut_fixed}
-use Rattle.trig.proofs.Nested.{top, bot, sines, cosines, sine_series, sine_bottom, cosine_series, cosine_bottom}
+use Rattle.trig.proofs.Terms.{top, bot, sines, cosines}
+use Rattle.trig.proofs.Nested.{sine_series, sine_bottom, cosine_series, cosine_bottom}
 
 abbrev pub nested : ℕ → List ℕ → ℕ
 nested u [] = one
@@ -36,7 +37,7 @@ module _ (t n d : ℕ) (T : Around one 2 t n d) (small : n ≤ d) (fixed : t ≤
   sine_stage : Stage one 3 (nested u sines) (top (n * n) (d * d) sines) (bot (d * d) sines)
   sine_stage =
       let cs : List ℕ = 20 ∷ 42 ∷ 72 ∷ 110 ∷ [] in
-      stage one (lit< tt) 6 3 5 2 u (nested u cs) (n * n) (d * d) (top (n * n) (d * d) cs) (bot (d * d) cs) (lit< tt) (lit≤ tt) square
+      stage one (lit< tt) _ 3 5 2 u (nested u cs) (n * n) (d * d) (top (n * n) (d * d) cs) (bot (d * d) cs) (lit< tt) (lit≤ tt) square
       (inner u (n * n) (d * d) square cs (lit≤ tt, (lit≤ tt, (lit≤ tt, (lit≤ tt, tt)))))
 
   cosine_stage : Stage one 5 (nested u cosines) (top (n * n) (d * d) cosines) (bot (d * d) cosines)

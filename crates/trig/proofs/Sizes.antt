@@ -1,5 +1,6 @@
 -- A float's sign and size: what the tests against zero, and of one size against another, tell. Assumes nothing.
-use Rattle.std.proofs.Common.{◌≡◌, ℕ, ◌+◌, ◌*◌, ◌<◌, ◌≤◌, Bool, true, false, T, ltb, leb, ◌⊎◌, ℤ, sym, ap, ◌∙◌, inl, inr, mul-le-mul_right, zero-mul, arith, le→leb, lt→ltb, ltb-false, ltb-true, le-ltb, lt-ltb}
+use Rattle.std.proofs.Common.{◌≡◌, ℕ, ◌+◌, ◌*◌, ◌<◌, ◌≤◌, Bool, true, false, T, ltb, leb, ◌⊎◌, ℤ, sym, ap, ◌∙◌, inl, inr, mul-le-mul_right, zero-mul, arith}
+use Rattle.std.proofs.Common.{le→leb, lt→ltb, ltb-false, ltb-true, le-ltb, lt-ltb}
 use lib.Ieee.{Float, nan, inf, fin, of_bits, up, down, lt}
 use lib.Ieee.Fits.{and_i}
 use lib.Ieee.Positive.{num, den, den_pos, first_pos}

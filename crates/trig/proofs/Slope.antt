@@ -1,6 +1,7 @@
 -- Below a degree the slope at t times the angle is the sine of t, in fixed point. Here l / b is the angle in degrees, at most 1, e its steps on the grid,
 -- t its radians, s the share of t, v its sine and c what a degree adds, all cut. Assumes nothing.
-use Rattle.std.proofs.Common.{ℕ, ◌+◌, ◌*◌, ◌^◌, ◌<◌, ◌≤◌, le_trans, le_of_lt, mul-le-mul_right, mul-le-mul, mul-le-mul_left, mul-pos, div-mul-le_self, le_of_mul-le-mul_right, arith, lit<, lit≤}
+use Rattle.std.proofs.Common.{ℕ, ◌+◌, ◌*◌, ◌^◌, ◌<◌, ◌≤◌, le_trans, le_of_lt, mul-le-mul_right, mul-le-mul, mul-le-mul_left, mul-pos, div-mul-le_self}
+use Rattle.std.proofs.Common.{le_of_mul-le-mul_right, arith, lit<, lit≤}
 use native.Mathlib.Nat.{lt-div-mul-add}
 use Rattle.trig.specs.Fixed.{one, slope, scaled_of, share_of, sine_fixed_of, per_degree_of}
 use Rattle.trig.specs.Wave.{degree, pi_over180, two_to33, radians_of}

@@ -1,5 +1,6 @@
 -- Below a degree the angle times its slope, rounded once, is within 2 ^ -23 of the exact sine. Assumes nothing.
-use Rattle.std.proofs.Common.{◌≡◌, ℕ, ◌+◌, ◌-◌, ◌*◌, ◌^◌, ◌<◌, ◌≤◌, Bool, true, false, T, ◌⊎◌, ℤ, pos, sym, refl, ap, ◌∙◌, subst, inl, inr, true≢false, eq-zero-or-pos, lt_of_mul-lt-mul_right, mul-pos, arith, lit<, lit≤, ltb-true, le-ltb, lt-ltb}
+use Rattle.std.proofs.Common.{◌≡◌, ℕ, ◌+◌, ◌-◌, ◌*◌, ◌^◌, ◌<◌, ◌≤◌, Bool, true, false, T, ◌⊎◌, ℤ, pos, sym, refl, ap, ◌∙◌, subst, inl, inr, true≢false}
+use Rattle.std.proofs.Common.{eq-zero-or-pos, lt_of_mul-lt-mul_right, mul-pos, arith, lit<, lit≤, ltb-true, le-ltb, lt-ltb}
 use lib.Ieee.{Float, nan, inf, fin, binary32, of_bits, up, down, unlike, fits, round, mul, lt}
 use lib.Ieee.Exact.{HasValue}
 use lib.Ieee.Fits.{down_pos}

@@ -1,6 +1,7 @@
 -- The exact sine and cosine of an angle that is j quarter turns and n steps of 2 ^ -16 degrees more or less, the tie at 45 degrees and n = 0 included: how
 -- near they are, and their signs. Assumes nothing.
-use Rattle.std.proofs.Common.{◌≡◌, ℕ, ◌+◌, ◌*◌, ◌%◌, ◌^◌, ◌<◌, ◌≤◌, Bool, true, false, cond, not, eqb, leb, ◌⊎◌, refl, ap, inl, inr, zero-le, mul-le-mul_right, mul-le-mul, mul-pos, zero-mul, arith, lit<, lit≤}
+use Rattle.std.proofs.Common.{◌≡◌, ℕ, ◌+◌, ◌*◌, ◌%◌, ◌^◌, ◌<◌, ◌≤◌, Bool, true, false, cond, not, eqb, leb, ◌⊎◌, refl, ap, inl, inr, zero-le, mul-le-mul_right}
+use Rattle.std.proofs.Common.{mul-le-mul, mul-pos, zero-mul, arith, lit<, lit≤}
 use native.Mathlib.Nat.{one-le-pow}
 use lib.Ieee.{unlike}
 use Rattle.trig.specs.Series.{sine_num, sine_den, cosine_num, cosine_den}
@@ -11,7 +12,8 @@ use Rattle.trig.specs.Octant.{most, sine_step, cosine_step}
 use Rattle.trig.specs.Angle.{quarter_turn}
 use Rattle.trig.proofs.Around.{Around}
 use Rattle.trig.proofs.Reduce.{order}
-use Rattle.trig.proofs.Nested.{top, top_le, sines, cosines, sine_series, sine_bottom, cosine_series, cosine_bottom}
+use Rattle.trig.proofs.Terms.{sines, cosines}
+use Rattle.trig.proofs.Nested.{top_le, sine_series, sine_bottom, cosine_series, cosine_bottom}
 use Rattle.trig.proofs.Place.{Placed, placed_more, placed_less, radians_le, sine_placed, cosine_placed}
 
 -- f is within 8 units of v / 2 ^ 30, and at most 1

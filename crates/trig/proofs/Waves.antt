@@ -1,8 +1,7 @@
 -- The theorem of the sine and the cosine; and what their returns have to show. Assumes nothing.
-use Rattle.std.proofs.Common.{◌≡◌, Bool, true, false, cond, not, T, sym, refl, ◌∙◌, subst}
+use Rattle.std.proofs.Common.{◌≡◌, Bool, true, false, cond, T, sym, refl, ◌∙◌, subst}
 use lib.Ieee.{Float, nan, binary32, fits, mul, lt}
 use lib.Ieee.Bits.{is_true}
-use Rattle.answer.proofs.Tests.{one, untrue, still}
 use Rattle.number.specs.Float32 as float
 use Rattle.number.specs.Same.{fabsf_of}
 use Rattle.trig.specs.Degrees.{Fraction, in_turn, sine_at, within}
@@ -31,11 +30,11 @@ near f exact n x h e = (e, λ t. subst (λ (z : Float). T (within 23 z (exact x)
 -- ---- the tests of an angle
 
 -- what the test of the range says
-pub in_range : (x : Float) {r : Bool} → r ≡ in_turn x → not r ≡ false → in_turn x ≡ true
-in_range x e h = still (in_turn x) (one e h)
+pub in_range : (x : Float) {r : Bool} → r ≡ in_turn x → r ≡ true → in_turn x ≡ true
+in_range x e h = sym e ∙ h
 
-pub out_of_range : (x : Float) {r : Bool} → r ≡ in_turn x → not r ≡ true → in_turn x ≡ false
-out_of_range x e h = untrue (in_turn x) (one e h)
+pub out_of_range : (x : Float) {r : Bool} → r ≡ in_turn x → r ≡ false → in_turn x ≡ false
+out_of_range x e h = sym e ∙ h
 
 pub is_so : {b : Bool} → b ≡ true → T b
 is_so e = subst T (sym e) tt

@@ -1,5 +1,6 @@
 -- In the range the sine or the cosine is above a half in size: one of them is the cosine of at most 45 degrees. Assumes nothing.
-use Rattle.std.proofs.Common.{◌≡◌, ℕ, ◌+◌, ◌-◌, ◌*◌, ◌/◌, ◌%◌, ◌≤◌, Bool, true, false, cond, ◌||◌, T, eqb, sym, refl, true≢false, mul-le-mul_right, arith, lit<, lt-ltb, ne_eqb, eqb-true}
+use Rattle.std.proofs.Common.{◌≡◌, ℕ, ◌+◌, ◌-◌, ◌*◌, ◌/◌, ◌%◌, ◌≤◌, Bool, true, false, cond, ◌||◌, T, eqb, sym, refl, true≢false, mul-le-mul_right, arith, lit<}
+use Rattle.std.proofs.Common.{lt-ltb, ne_eqb, eqb-true}
 use native.Mathlib.Nat.{div-le_of_le-mul}
 use borrow.Author.Tests.{eqb-false}
 use lib.Ieee.{Float, nan, inf, fin, of_bits, up, down, mul, binary32, lt}

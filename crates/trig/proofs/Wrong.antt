@@ -95,7 +95,8 @@ pub of_both
     : (Sine beyond (of_bits binary32 0x3c8e_f859) → ⊥)
     × (Cosine beyond (of_bits binary32 0x3f7f_f605) → ⊥)
     × (Sine thirty (of_bits binary32 0x3f00_0001) → ⊥)
-unfolding sin_of cos_of slope_of float_of size_of minus_of grid_of radians_of sine_fixed_of cosine_fixed_of per_degree_of scaled_of stage_of turns left left_minus
+unfolding sin_of cos_of slope_of float_of size_of minus_of grid_of radians_of sine_fixed_of cosine_fixed_of per_degree_of scaled_of stage_of turns
+    left left_minus
     fabsf_of le lt eq neg add sum mul div round units odd of_int of_bits to_bits
 of_both = (λ h. apart bits h.0 refl, λ h. apart bits h.0 refl, λ h. apart bits h.0 refl)
 
@@ -149,7 +150,8 @@ pub of_rejection_threshold
     × (one ≡ rejection_threshold_of ninety → ⊥)
     × (half ≡ rejection_threshold_of ninety → ⊥)
     × (half ⊗ half ≡ rejection_threshold_of far → ⊥)
-unfolding rejection_threshold_of sin_of slope_of float_of size_of minus_of grid_of radians_of sine_fixed_of cosine_fixed_of per_degree_of scaled_of stage_of turns left
+unfolding rejection_threshold_of sin_of slope_of float_of size_of minus_of grid_of radians_of sine_fixed_of cosine_fixed_of per_degree_of scaled_of
+    stage_of turns left
     left_minus fabsf_of le lt eq neg add sum mul div round units odd of_int of_bits to_bits
 of_rejection_threshold = (
   λ h. apart bits h refl,
@@ -207,7 +209,8 @@ pub of_angle_exactly
     × (Angle one one (of_bits binary32 0x4234_0001) → ⊥)
     × (Angle infinity one nought → ⊥)
     × (Angle nan one nought → ⊥)
-unfolding angle_of bearing_of degrees_of ratio_of octant_of guess_of sine_step cosine_step steps_of radians_of sine_fixed_of cosine_fixed_of scaled_of stage_of fabsf_of
+unfolding angle_of bearing_of degrees_of ratio_of octant_of guess_of sine_step cosine_step steps_of radians_of sine_fixed_of cosine_fixed_of
+    scaled_of stage_of fabsf_of
     le lt eq neg div round units odd of_int of_bits to_bits
 of_angle_exactly = (
   λ h. apart bits h.0 refl,
@@ -225,7 +228,8 @@ pub of_angle_degrees
     × (GivesAngle infinity one (Value ninety) → ⊥)
     × (GivesAngle nan one (Refused 6) → ⊥)
     × (GivesAngle one two (Value nought) → ⊥)
-unfolding angle_of bearing_of degrees_of ratio_of octant_of guess_of sine_step cosine_step steps_of radians_of sine_fixed_of cosine_fixed_of scaled_of stage_of fabsf_of
+unfolding angle_of bearing_of degrees_of ratio_of octant_of guess_of sine_step cosine_step steps_of radians_of sine_fixed_of cosine_fixed_of
+    scaled_of stage_of fabsf_of
     le lt eq neg div round units odd of_int of_bits to_bits refusal_of
 of_angle_degrees = (
   λ h. unlike 5 0 refl h.number,

@@ -126,6 +126,7 @@ fn nearer(p: u64, span: Span) -> u64
     if short <= past { span.lo } else { span.hi }
 }
 
+#[tactic(auto, unfolding(crate::specs::Octant::octant_of))]
 pub(crate) fn octant(p: u64) -> u64
     requires { p ≤ tangent_one }
     ensures value { result ≡ octant_of p }

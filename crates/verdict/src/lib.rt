@@ -2,8 +2,16 @@
 // so it names that refusal on standard error, and ./gateweave makes the status of it.
 #![tactic(auto)]
 
-ghost use Rattle.std.specs.Prelude.{◌≡◌, not, eqb};
+ghost use Rattle.std.specs.Prelude.{◌≡◌, ◌≤◌, length, not, eqb};
 ghost use Rattle.verdict.specs.Verdict.{no_verdict, next_of, digit_of, byte_of, verdict_of, is_refused};
+
+use std::io::{Cursor, Error, ErrorKind, Write};
+
+// The descriptor of standard error.
+const STDERR: i32 = 2;
+
+// As the shell has it of the system's signal: 128 and the signal's number, 13.
+const READER_GONE: u8 = 141;
 
 // The lines that have ended; the first that is a refusal, and its number, both 0 where there is none; whether the number has ended.
 #[derive(Clone, Copy)]
@@ -100,7 +108,7 @@ impl Verdict {
 
     // A line as `replay: refused 8 in record 3`.
     fn name(self, program: &[u8], unit: &[u8]) {
-        let fd = libc::STDERR_FILENO;
+        let fd = STDERR;
         io::write_all(fd, program);
         io::write_all(fd, b": refused ");
         io::print_decimal(fd, self.number as u64);
@@ -138,7 +146,7 @@ pub fn tell_log(program: &[u8], begun: bool, number: u8, records: u64) -> bool
             };
             verdict.name(program, b"record");
         } else {
-            let fd = libc::STDERR_FILENO;
+            let fd = STDERR;
             io::write_all(fd, program);
             io::write_all(fd, b": refused ");
             io::print_decimal(fd, number as u64);
@@ -146,4 +154,33 @@ pub fn tell_log(program: &[u8], begun: bool, number: u8, records: u64) -> bool
         }
     }
     refused
+}
+
+// How many bytes are the system's words in what std prints of an error, which has the error's number in brackets behind them.
+fn words(text: &[u8]) -> usize
+    ensures { result ≤ length text.now }
+{
+    for i in 0..text.len() {
+        if (text[i] == 0) || text[i..].starts_with(b" (os error ") {
+            return i;
+        }
+    }
+    text.len()
+}
+
+// Names a read or a write that failed, as `replay: standard input: Is a directory`, and gives the status that the program ends with: 0,
+// since the line says all. Where the reader of the output has gone nothing is said, and the status is that of a program which that ends.
+pub fn tell_failed(what: &[u8], error: Error) -> u8 {
+    if matches!(error.kind(), ErrorKind::BrokenPipe) {
+        return READER_GONE;
+    }
+    let mut said = Cursor::new([0u8; 128]);
+    let _ = write!(said, "{error}");
+    let text = said.into_inner();
+    let n = words(&text);
+    io::write_all(STDERR, what);
+    io::write_all(STDERR, b": ");
+    io::write_all(STDERR, &text[..n]);
+    io::write_all(STDERR, b"\n");
+    0
 }

@@ -10,19 +10,15 @@ returns-then-axes c =
 
 pub returns-then-not-all_finite : goal.returns-then-not-all_finite
 returns-then-not-all_finite c =
-    let t = c in
-    let a = t.args in
-    not_finite a.self a.mounting t.axes_of-axes.ensures t.if-axes.false c.all_finite.ensures (ap not c.if-not-all_finite.true)
+    let a = c.args in
+    not_finite a.self a.mounting c.axes_of-axes.ensures c.if-axes.false c.all_finite.ensures (ap not c.if-not-all_finite.true)
 
 pub read_by-requires : goal.read_by-requires
 read_by-requires c =
-    let t = c in
-    let a = t.args in
-    its_places a.self a.mounting t.axes_of-axes.ensures t.if-axes.false
+    let a = c.args in
+    its_places a.self a.mounting c.axes_of-axes.ensures c.if-axes.false
 
 pub returns : goal.returns
 returns c =
-    let w = c in
-    let t = w in
-    let a = t.args in
-    turns a.self a.mounting t.axes_of-axes.ensures t.if-axes.false w.all_finite.ensures (ap not w.if-not-all_finite.false) c.read_by.ensures
+    let a = c.args in
+    turns a.self a.mounting c.axes_of-axes.ensures c.if-axes.false c.all_finite.ensures (ap not c.if-not-all_finite.false) c.read_by.ensures

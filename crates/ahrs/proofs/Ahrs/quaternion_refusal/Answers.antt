@@ -1,0 +1,24 @@
+-- `ahrs::Ahrs::quaternion_refusal` meets its contract: the first check that fails.
+use Rattle.answer.specs.Refusals.{refusal_of}
+use Rattle.answer.proofs.Tests.{one, two}
+use Rattle.std.proofs.Common.{ap, not}
+use Rattle.ahrs.proofs.Ahrs.quaternion_refusal.Goals as goal
+
+pub returns-then-not-is_known : goal.returns-then-not-is_known
+unfolding refusal_of
+returns-then-not-is_known c = rw (one c.is_known.ensures (ap not c.if-not-is_known.true))
+
+pub returns-then-not-is_finite : goal.returns-then-not-is_finite
+unfolding refusal_of
+returns-then-not-is_finite c = let finite = two c.is_finite.ensures c.is_finite-2.ensures (ap not c.if-not-is_finite.true) in
+    rw (one c.is_known.ensures (ap not c.if-not-is_known.false), finite)
+
+pub returns-then-not-is_settable : goal.returns-then-not-is_settable
+unfolding refusal_of
+returns-then-not-is_settable c = let finite = two c.is_finite.ensures c.is_finite-2.ensures (ap not c.if-not-is_finite.false) in
+    rw (one c.is_known.ensures (ap not c.if-not-is_known.false), finite, one c.is_settable.ensures (ap not c.if-not-is_settable.true))
+
+pub returns : goal.returns
+unfolding refusal_of
+returns c = let finite = two c.is_finite.ensures c.is_finite-2.ensures (ap not c.if-not-is_finite.false) in
+    rw (one c.is_known.ensures (ap not c.if-not-is_known.false), finite, one c.is_settable.ensures (ap not c.if-not-is_settable.false))

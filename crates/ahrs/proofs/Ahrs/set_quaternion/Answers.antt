@@ -1,0 +1,13 @@
+-- `ahrs::Ahrs::set_quaternion` meets its contract: by the number of its checks.
+use mathlib.Core.Path.{refl}
+use Rattle.ahrs.specs.Filter.{with_quaternion}
+use Rattle.answer.proofs.Answering.{stays, becomes}
+use Rattle.ahrs.proofs.Ahrs.set_quaternion.Goals as goal
+
+pub returns-then-number-ne0 : goal.returns-then-number-ne0
+unfolding with_quaternion
+returns-then-number-ne0 c = stays _ _ _ c.quaternion_refusal-number.ensures c.if-number-ne0.true
+
+pub returns : goal.returns
+unfolding with_quaternion
+returns c = becomes _ _ _ c.quaternion_refusal-number.ensures c.if-number-ne0.false refl
