@@ -8,7 +8,7 @@ use lib.IntN.{pos, negsuc}
 use lib.Ieee.{Float, binary32, fits, neg, of_bits}
 use lib.Ieee.Fits.{neg-fits}
 use lib.Ieee.Scale.{finite}
-use Rattle.number.specs.Float32.{◌⊕◌, ◌⊗◌, zero, one}
+use Rattle.number.specs.Float32.{◌⊕◌, ◌⊗◌, zero}
 use Rattle.number.specs.Same.{Same}
 use Rattle.number.proofs.Same.{same_of, same_trans, same_add}
 use Rattle.number.proofs.Neutral.{zero_times, one_times, minus_one_times, zero_plus, plus_zero}

@@ -5,7 +5,7 @@ use mathlib.Core.Path.{◌≡◌, refl, ap, ap₂, sym, ◌∙◌}
 use mathlib.Core.Bool.{true}
 use mathlib.Core.List.{List, [], ◌∷◌, ◌++◌}
 use lib.ListN.{length, get_or}
-use lib.Ieee.{binary32, fits}
+use lib.Ieee.{binary32}
 use lib.Ieee.Bits.{of_bits-to_bits}
 use Rattle.answer.specs.Refusals.{refusal_of}
 use Rattle.answer.proofs.Tests.{all_four}

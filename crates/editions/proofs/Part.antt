@@ -1,10 +1,10 @@
 -- The offset's part of a record with another version, whatever stands behind it: mark, mounting and offset are as they were. Assumes nothing.
 use Prim.Native.Nat.{ℕ, ◌+◌, ◌<◌, ◌≤◌}
 use native.Mathlib.Omega.{arith}
-use mathlib.Core.Path.{◌≡◌, ap, ap₂, sym, ◌∙◌}
+use mathlib.Core.Path.{◌≡◌, ap, ap₂, ◌∙◌}
 use mathlib.Core.Bool.{Bool, true}
 use mathlib.Core.List.{List, [], ◌++◌}
-use lib.ListN.{length, take}
+use lib.ListN.{length}
 use Rattle.vector.specs.declared.Vector.{Vector}
 use Rattle.bias.specs.declared.Bias.{Bias}
 use Rattle.bias.specs.Estimator.{with_offset}
@@ -25,10 +25,6 @@ module _ (v : ℕ) (s : List ℕ) (h : 18 ≤ length s) where
 
   pub before : (t : List ℕ) → part_of v s ++ t ≡ fronted v s t
   before t = ap (λ (l : List ℕ). l ++ t) alone
-
-  -- the version may be stored once the rest is there
-  pub stored_late : (t : List ℕ) → put_u16 (take 18 s ++ t) 3 v ≡ part_of v s ++ t
-  stored_late t = ap (λ (l : List ℕ). put_u16 (l ++ t) 3 v) (spelled_part 18 s 0 h) ∙ sym (before t)
 
 module _ (v : ℕ) (s t : List ℕ) {u : List ℕ} (e : u ≡ fronted v s t) where
   mark_kept : has_mark u ≡ has_mark s

@@ -3,21 +3,12 @@ use Prim.Native.Nat.{ℕ, ◌≤◌}
 use native.Mathlib.Omega.{arith}
 use mathlib.Core.Path.{◌≡◌, ap, ap₂, sym, ◌∙◌}
 use mathlib.Core.List.{List, ◌++◌, append-nil}
-use lib.ListN.{length, take, drop, drop_of_length-le}
-use lib.Seq.{take-length, length-take-le}
+use lib.ListN.{length, drop, drop_of_length-le}
 use Rattle.bias.specs.declared.BiasSettings.{BiasSettings}
-use Rattle.wire.specs.Wire.{put_u16}
 use Rattle.wire.proofs.Laws.{spelled}
 use Rattle.editions.specs.Move.{part_of, settings_bytes, up_of, down_of}
 use Rattle.editions.specs.Inner.{put_settings}
-use Rattle.editions.proofs.Part.{alone, stored_late}
-
--- a part that was copied, and its version stored
-pub put_part : (v : ℕ) (s out : List ℕ) {x y : List ℕ} → 18 ≤ length s
-    → x ≡ take (length (take 18 s)) (take 18 s) ++ drop (length (take 18 s)) out → y ≡ put_u16 x 3 v → y ≡ part_of v s ++ drop 18 out
-put_part v s out h ex ey =
-    let copied = ap₂ (λ (l : List ℕ) (n : ℕ). l ++ drop n out) (take-length (take 18 s)) (length-take-le 18 s h) in
-    ey ∙ ap (λ (l : List ℕ). put_u16 l 3 v) (ex ∙ copied) ∙ stored_late v s h (drop 18 out)
+use Rattle.editions.proofs.Part.{alone}
 
 -- into 34 bytes
 pub put_up : (s : List ℕ) (p : BiasSettings) (out : List ℕ) {x y : List ℕ} → 18 ≤ length s → length out ≡ 34

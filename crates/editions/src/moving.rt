@@ -12,7 +12,7 @@ pub(crate) fn put_part(source: &[u8], version: u16, out: &mut [u8])
     requires { (18 ≤ length source.now) × (18 ≤ length out.old) }
     ensures { out.new ≡ part_of version source.now ++ drop 18 out.old }
 {
-    bytes::copy(&source[0..offset::LENGTH], out);
+    out[0..offset::LENGTH].copy_from_slice(&source[0..offset::LENGTH]);
     wire::put_u16(out, 3, version);
 }
 
