@@ -25,7 +25,7 @@ use Rattle.table.specs.declared.foot.Side.TheVariants.{First, Second}
 use Rattle.table.specs.Calls.{no_settings, row_of, with_row, no_row, settled_of, choose_checks, shared_with, rewrite_checks}
 use Rattle.table.specs.Sides.{party_of, other_row}
 use Rattle.apart.specs.Turns.{Standing, fresh_of, Act, call, look, choose, rewrite, Turn, act_of, table_of, after_of, end_of}
-use Rattle.apart.specs.Rows.{StaysInTable, other, HoldsStill, StaysAFilter, StaysSound}
+use Rattle.apart.specs.Rows.{StaysInTable, HoldsStill, StaysAFilter, StaysSound}
 
 -- ---- what each turn of a party keeps of it, it keeps throughout
 

@@ -49,6 +49,7 @@ no_ten a s e = go ((exactly_when.set_settings a s).given 10 (omega arith) e).0
     go (inr (inl p)) = let z = p.0 in omega arith
     go (inr (inr (inl p))) = let z = p.0 in omega arith
     go (inr (inr (inr (inl p)))) = let z = p.0 in omega arith
+    go (inr (inr (inr (inr none)))) = elim none [ ]
 
 -- and none of known conventions with 4
 no_four : (a : Ahrs) (s : Settings) → (not (known_convention a.settings && known_convention s)) ≡ false → refusal_of (change_checks a s) ≡ 4 → ⊥
@@ -60,6 +61,7 @@ no_four a s k e = go ((exactly_when.set_settings a s).given 4 (omega arith) e).0
     go (inr (inl p)) = let z = p.0 in omega arith
     go (inr (inr (inl p))) = let z = p.0 in omega arith
     go (inr (inr (inr (inl p)))) = let z = p.0 in omega arith
+    go (inr (inr (inr (inr none)))) = elim none [ ]
 
 module _ (a b : Ahrs) (s : Settings) (t : Table) (known : known_convention a.settings ≡ true) (also : known_convention s ≡ true) where
   both : (not (known_convention a.settings && known_convention s)) ≡ false

@@ -26,7 +26,7 @@ use Rattle.table.specs.Calls.{fresh_party, Starts, Chooses, Rewrites}
 use Rattle.table.specs.Sides.{party_of, with_filter, FootChooses, FootRewrites}
 use Rattle.apart.specs.Looks.{Look, settings, quaternion, gravity, linear_acceleration, earth_acceleration, flags, internal_states, ignored_counts}
 use Rattle.apart.specs.Looks.{shown_of, settings_read, quaternion_read, vector_read, flags_read, states_read, ignored_read}
-use Rattle.apart.specs.Turns.{Standing, Act, call, look, choose, rewrite, Turn, Heard, told, shown, Step, act_of, table_of, step_of, after_of}
+use Rattle.apart.specs.Turns.{Standing, Act, call, look, choose, rewrite, Turn, Heard, told, shown, act_of, table_of, step_of, after_of}
 
 abbrev pub turn : Side → Act → Turn
 turn side a = record { by = side; act = a }

@@ -1,16 +1,14 @@
 -- What a choice from a lent table and a rewrite of it promise, from what the calls by value promise of the one row that is touched. Assumes nothing.
-use Prim.Native.Nat.{ℕ, ◌<◌, ◌*◌, ◌^◌, ◌%◌}
+use Prim.Native.Nat.{ℕ, ◌%◌}
 use native.Mathlib.Omega.{arith}
 use mathlib.Core.Path.{◌≡◌, refl, sym, ap, subst, ◌∙◌}
 use mathlib.Core.Bool.{Bool, true, false, not, ◌&&◌, ◌||◌}
 use lib.ListN.{get_or, set}
-use denote.Memory.{mem}
 use borrow.Author.Tests.{ltb-false}
 use Rattle.answer.specs.Refusals.{refusal_of}
 use Rattle.answer.proofs.Answering.{fails, unfailed, stays, becomes, is_old}
 use Rattle.answer.proofs.Tests.{neither}
 use Rattle.settings.specs.declared.Settings.{Settings}
-use Rattle.settings.specs.contracts.Settings as S
 use Rattle.settings.specs.Config.{known_convention}
 use Rattle.table.specs.declared.Table.{Table}
 use Rattle.table.specs.declared.Party.{Party}
@@ -18,13 +16,6 @@ use Rattle.table.specs.declared.Settled.{Settled}
 use Rattle.table.specs.Calls.{no_settings, row_of, with_row, no_row, choose_checks, Chosen, Chooses, Resettles, Rewrites}
 
 -- ---- where a row stands
-
-pub stands_below : (row : ℕ) {i : ℕ} → i ≡ row % 8 → i < 8
-stands_below row e = omega arith
-
--- its place in bytes
-pub fits_scaled : (i : ℕ) → i < 8 → i * (mem S.the_row).size < 2 ^ 64
-fits_scaled i l = omega arith
 
 stands_at : (row : ℕ) {i : ℕ} → i ≡ row % 8 → no_row row ≡ false → i ≡ row
 stands_at row e f = omega (arith, ltb-false 7 row f)

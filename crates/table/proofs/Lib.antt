@@ -5,8 +5,4 @@ pub mod Starting  -- a party's start is its filter's, on a row
 pub mod Sides  -- what a call promises of a party it promises of the foot
 pub mod Refusing  -- each number is given exactly when its row says
 pub mod Determined  -- a promise has one result
-mod Walk  -- what the walks of `choose_lent` and `rewrite_lent` need of each type
-mod Rows  -- one row of a lent table, looked at and stored to; on Walk
-mod FootWalk  -- what the walks of the foot's calls need of each type and of the calls by value
-mod OwnedWalk  -- what the walks of an owner need: a table in a local, lent and had back
 mod Wrong

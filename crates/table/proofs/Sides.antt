@@ -15,10 +15,6 @@ use Rattle.table.specs.declared.foot.Stood.{Stood}
 use Rattle.table.specs.Calls.{Chooses, Rewrites}
 use Rattle.table.specs.Sides.{party_of, other_row, with_party, stood_of, FootChooses, FootRewrites}
 
--- by the side that a match found
-pub anew : (found : Side) (p : Party) (f : Foot) {side : Side} → side ≡ found → with_party found p f ≡ with_party side p f
-anew found p f e = ap (λ (x : Side). with_party x p f) (sym e)
-
 -- a party that is put back
 put_back : (side : Side) (f : Foot) → with_party side (party_of side f) f ≡ f
 put_back First f = refl

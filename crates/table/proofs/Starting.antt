@@ -11,7 +11,6 @@ use Rattle.ahrs.specs.declared.Ahrs.{Ahrs}
 use Rattle.ahrs.specs.declared.change.Started as start
 use Rattle.ahrs.specs.Filter.{fresh_of}
 use Rattle.ahrs.specs.Calls as filter
-use Rattle.table.specs.declared.start.Started.{Started}
 use Rattle.table.specs.declared.start.Started.TheVariants.{Fresh, Refused}
 use Rattle.table.specs.Calls.{party, start_said, Starts}
 

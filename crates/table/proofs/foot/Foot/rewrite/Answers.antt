@@ -1,0 +1,6 @@
+-- `table::Foot::rewrite` meets its contract: what the lent rewrite promises of the party, of the foot.
+use Rattle.table.proofs.Sides.{foot_rewritten}
+use Rattle.table.proofs.foot.Foot.rewrite.Goals as goal
+
+pub returns : goal.returns
+returns c = foot_rewritten _ _ c.party.ensures c.stood.ensures _ _ _ c.other_row.ensures c.rewrite_lent-settled.ensures
