@@ -234,15 +234,12 @@ fn write(rt: &HostRuntime, lines: &Lines, n: usize, machine: Machine, before: Ve
     write_part(rt, lines, n, machine, before)
 }
 
-// Whether the input has ended, which one more read tells from a read that failed; why it has not.
-fn ended(rt: &HostRuntime) -> Result<(), Error> {
+// Whether the input has ended, which one more read tells from a read that failed.
+fn is_end(rt: &HostRuntime) -> Result<bool, Error> {
     let mut more = [0u8; 1];
     let mut input = rt.stdin();
-    match input.read(&mut more) {
-        Ok(0) => Ok(()),
-        Ok(_) => Err(Error::from_raw_os_error(0)),
-        Err(e) => Err(e),
-    }
+    let got = input.read(&mut more)?;
+    Ok(got == 0)
 }
 
 // Reads a block of records, and writes its lines. A block that is not full is the last.
@@ -250,7 +247,12 @@ fn read_on(rt: &HostRuntime, machine: Machine, verdict: Verdict) -> Turn {
     let mut block = io::buffer();
     let n = io::read_full(STDIN, &mut block);
     if n < BLOCK {
-        if let Err(e) = ended(rt) {
+        let ended = match is_end(rt) {
+            Ok(true) => Ok(()),
+            Ok(false) => Err(Error::from_raw_os_error(0)),
+            Err(e) => Err(e),
+        };
+        if let Err(e) = ended {
             return Turn {
                 machine,
                 verdict,
