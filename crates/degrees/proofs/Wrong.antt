@@ -30,8 +30,8 @@ pub of_is_right
     × NotRight (vector 0 0x41f0_0000 6 0 0)
     × NotRight (vector 1 0x41f0_0000 0 0x3eff_ffff 0x3f00_0001)
     × NotRight (vector 4 0x41f0_0000 0 0x3eff_ffff 0x3f00_0001)
-unfolding kind_of kind_right refusal_of sin_of cos_of slope_of float_of size_of minus_of grid_of radians_of sine_fixed_of cosine_fixed_of per_degree_of scaled_of stage_of turns
-    left left_minus fabsf_of le lt eq neg add sum mul div round units odd of_int of_bits
+unfolding kind_of kind_right refusal_of sin_of cos_of slope_of float_of size_of minus_of grid_of radians_of sine_fixed_of cosine_fixed_of
+    per_degree_of scaled_of stage_of turns left left_minus fabsf_of le lt eq neg add sum mul div round units odd of_int of_bits
 of_is_right = (true≢false, true≢false, true≢false, true≢false, true≢false)
 
 -- 361 answered, and refused with 5; and of the angle 0 a limit of 0
@@ -39,8 +39,8 @@ pub of_ends
     : NotRight (vector 0 0x43b4_8000 0 0 0x3f80_0000)
     × NotRight (vector 1 0x43b4_8000 5 0 0)
     × NotRight (vector 2 0 0 0 0x3f80_0000)
-unfolding kind_of kind_right refusal_of sin_of cos_of rejection_threshold_of slope_of float_of size_of minus_of grid_of radians_of sine_fixed_of cosine_fixed_of per_degree_of
-    scaled_of stage_of turns left left_minus fabsf_of le lt eq neg add sum mul div round units odd of_int of_bits
+unfolding kind_of kind_right refusal_of sin_of cos_of rejection_threshold_of slope_of float_of size_of minus_of grid_of radians_of sine_fixed_of
+    cosine_fixed_of per_degree_of scaled_of stage_of turns left left_minus fabsf_of le lt eq neg add sum mul div round units odd of_int of_bits
 of_ends = (true≢false, true≢false, true≢false)
 
 -- of (0, -1), whose angle is 180: from -180 to -180, round by 180 but beside it, refused, and another kind; and of (1, 0), whose angle is 90: that of (0, 1)
@@ -50,8 +50,8 @@ pub of_points
     × NotRight (point 3 0 0xbf80_0000 5 0x4333_ffff 0xc333_ffff)
     × NotRight (point 2 0 0xbf80_0000 0 0x4333_ffff 0xc333_ffff)
     × NotRight (point 3 0x3f80_0000 0 0 0 0)
-unfolding kind_of kind_right refusal_of rejection_threshold_of angle_of bearing_of degrees_of octant_of guess_of ratio_of sine_step cosine_step radians_of sine_fixed_of
-    cosine_fixed_of scaled_of stage_of fabsf_of le lt eq neg add sum mul div round units odd of_int of_bits
+unfolding kind_of kind_right refusal_of rejection_threshold_of angle_of bearing_of degrees_of octant_of guess_of ratio_of sine_step cosine_step
+    radians_of sine_fixed_of cosine_fixed_of scaled_of stage_of fabsf_of le lt eq neg add sum mul div round units odd of_int of_bits
 of_points = (true≢false, true≢false, true≢false, true≢false, true≢false)
 
 -- a y that is infinite, answered and refused with 6

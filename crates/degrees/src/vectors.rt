@@ -9,6 +9,7 @@ use trig::Number;
 const HALF_TURN: f32 = 180.0;
 
 // 0 for the sine, 1 for the cosine, 2 for the squared limit of a rejection angle, 3 for the angle of a point; 4 for any other.
+#[tactic(auto, unfolding(crate::specs::Vectors::kind_of))]
 pub(crate) fn kind(v: &[u8]) -> usize
     ensures value { result ≡ kind_of v.now }
     ensures small { result < 5 }
@@ -46,6 +47,7 @@ fn angle_is_right(answer: Number, number: u32, least: f32, greatest: f32) -> boo
     }
 }
 
+#[tactic(auto, unfolding(crate::specs::Vectors::kind_right))]
 pub(crate) fn is_right(v: &[u8]) -> bool
     ensures { result ≡ right_of v.now }
 {

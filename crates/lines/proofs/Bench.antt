@@ -25,7 +25,8 @@ unfolding printed last_of answer_of refusal_of compose_of first same name_of mou
 bench = (refl, refl, refl)
 
 -- the first name again, and the right name with no newline
-pub not_taken :
-    T (not (same (printed [] example) (43 ∷ 89 ∷ 43 ∷ 90 ∷ 43 ∷ 88 ∷ newline ∷ []))) × T (not (same (printed [] example) (43 ∷ 90 ∷ 43 ∷ 88 ∷ 43 ∷ 89 ∷ [])))
+pub not_taken
+    : T (not (same (printed [] example) (43 ∷ 89 ∷ 43 ∷ 90 ∷ 43 ∷ 88 ∷ newline ∷ [])))
+    × T (not (same (printed [] example) (43 ∷ 90 ∷ 43 ∷ 88 ∷ 43 ∷ 89 ∷ [])))
 unfolding printed last_of answer_of refusal_of compose_of first same name_of mounting_of text_of
 not_taken = (tt, tt)

@@ -76,7 +76,8 @@ unfolding total text_after line_after printed
 total_printed [] l p h = holds_last h
 total_printed (b ∷ bs) l p h =
     total_next l b bs
-    ∙ go (eqb b 10) refl (total_printed bs fresh_line [] holds_fresh) (λ g. total_printed bs (kept_of l b) (p ++ (b ∷ [])) (holds_next b g h))
+    ∙ go (eqb b 10) refl (total_printed bs fresh_line [] holds_fresh)
+    (λ g. total_printed bs (kept_of l b) (p ++ (b ∷ [])) (holds_next b g h))
   where
     go : (t : Bool) → eqb b 10 ≡ t → total fresh_line bs ≡ printed [] bs → ((b ≡ 10 → ⊥) → total (kept_of l b) bs ≡ printed (p ++ (b ∷ [])) bs)
         → print_of l b ++ total (kept_of l b) bs ≡ cond t (line_text (length p) p ++ printed [] bs) (printed (p ++ (b ∷ [])) bs)

@@ -40,7 +40,9 @@ unfolding line_after text_after over
 feed_none s old l = record { within = omega arith; room = omega arith; long = refl; number = refl; line = refl; count = refl; holds = refl }
 
 module _ (s old : List ℕ) (l : Line) (out : List ℕ) (f : Fed) (i : ℕ) (g : Feeding s old l out f i) where
-  pub feed_next : (after : List ℕ) (r : Fed) → i < length s → length after ≡ length out → Takes f (get_or s i 0) out after r → Feeding s old l after r (i + 1)
+  pub feed_next
+      : (after : List ℕ) (r : Fed) → i < length s → length after ≡ length out → Takes f (get_or s i 0) out after r
+      → Feeding s old l after r (i + 1)
   feed_next after r h same t =
       let b = get_or s i 0 in
       let snoc : take (i + 1) s ≡ take i s ++ (b ∷ []) = rw add-one (take-suc s i 0 h) in

@@ -27,7 +27,9 @@ module _ (out : List ℕ) where
 
 -- ---- what a caller that lends enough needs no test for
 
-pub feed_accepted : (part : List ℕ) {l : Line} {out after : List ℕ} {r : Fed} → PartFed l part out after r → 10 * length part ≤ length out → r.refusal ≡ 0
+pub feed_accepted
+    : (part : List ℕ) {l : Line} {out after : List ℕ} {r : Fed} → PartFed l part out after r → 10 * length part ≤ length out
+    → r.refusal ≡ 0
 feed_accepted part {l} {out} f h = f.number ∙ room part out (omega arith)
 
 pub last_accepted : {l : Line} {out after : List ℕ} {r : Fed} → LastFed l out after r → 10 ≤ length out → r.refusal ≡ 0

@@ -28,6 +28,7 @@ pub struct Fed {
 }
 
 // The start of a line.
+#[tactic(auto, unfolding(crate::specs::Machine::fresh_line))]
 pub fn fresh() -> Line
     ensures { result ≡ fresh_line }
 {
