@@ -95,9 +95,7 @@ pub float_to_bits-b : goal.float_to_bits-b
 float_to_bits-b c = no_nan (above _ c.if-x.true)
 
 pub root_bits-requires : goal.root_bits-requires
-root_bits-requires c =
-    let at : Finite (to_bits binary32 c.args.x) = in_range (above _ c.if-x.true) c.well_formed.0.1 (omega (arith, c.if-b-lt2139095040.true)) in
-    at
+root_bits-requires c = in_range (above _ c.if-x.true) c.well_formed.0.1 (omega (arith, c.if-b-lt2139095040.true))
 
 pub float_from_bits-result : goal.float_from_bits-result
 float_from_bits-result c =
