@@ -1,19 +1,18 @@
 -- The matrix by the places of a mounting is the mounting's. Assumes nothing.
 use Prim.Native.Nat.{ℕ}
-use native.Mathlib.Omega.{arith}
-use mathlib.Core.Path.{◌≡◌, ap, sym, subst, ◌∙◌}
+use mathlib.Core.Path.{◌≡◌, ap, ◌∙◌}
 use mathlib.Core.Bool.{Bool, false, cond}
 use mathlib.Core.List.{List, [], ◌∷◌}
 use lib.Dec.{ltb}
 use lib.Ieee.{Float}
 use Rattle.vector.specs.Axes.{place_of, places, no_places, axes_of}
 use Rattle.vector.specs.Mounting.{Signed, Mounting, mounting_of}
-use Rattle.vector.proofs.Axes.{place, at_place, own}
+use Rattle.vector.proofs.Axes.{at_place, own}
 use Rattle.math.specs.declared.matrix.Matrix.{Matrix}
 use Rattle.math.specs.Matrices.{from_rows_of}
 use Rattle.alignment.specs.Whole.{whole_of}
 use Rattle.alignment.specs.Matrix.{floats_of, to_matrix_of}
-use Rattle.alignment.specs.Inner.{float_row, row_at, matrix_by, Placed}
+use Rattle.alignment.specs.Inner.{float_row, row_at, matrix_by}
 
 -- ---- rows and places
 
@@ -26,17 +25,11 @@ by_places m = let (p, q, r) = own m in by_rows (axis m.x p) (axis m.y q) (axis m
     axis : {n : ℕ} (s : Signed) → n ≡ place_of s → row_at n ≡ float_row s
     axis s e = ap row_at e ∙ at_place float_row [] s
 
-placed : (m : Mounting) → Placed (places m)
-placed m = let (p, q, r) = own m in (omega (arith, place m.x), omega (arith, place m.y), omega (arith, place m.z))
-
 -- ---- what `axes_of` gives of a mounting
 
 module _ (n : ℕ) {a : ℕ} (f : ltb 23 n ≡ false) (e : a ≡ axes_of n) where
   its_places : a ≡ places (mounting_of n)
   its_places = e ∙ ap (λ (b : Bool). cond b no_places (places (mounting_of n))) f
-
-  pub are_placed : Placed a
-  are_placed = subst Placed (sym its_places) (placed (mounting_of n))
 
   pub its_matrix : {r : Matrix} → r ≡ matrix_by a → r ≡ to_matrix_of n
   unfolding to_matrix_of

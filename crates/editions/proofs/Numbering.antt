@@ -1,11 +1,10 @@
 -- The number of a record's checks by an edition, from that of its offset's part. Assumes nothing.
 use Prim.Native.Nat.{ℕ}
 use mathlib.Core.Path.{◌≡◌, ap, sym, ◌∙◌}
-use mathlib.Core.Bool.{Bool, true, false, not, cond}
+use mathlib.Core.Bool.{Bool, false, not, cond}
 use mathlib.Core.List.{List, []}
 use Rattle.answer.specs.Refusals.{refusal_of}
-use Rattle.answer.proofs.Tests.{untrue, still}
-use Rattle.answer.proofs.Answering.{all_pass}
+use Rattle.answer.proofs.Tests.{still}
 use Rattle.answer.proofs.Ordering.{at_once_by, later}
 use Rattle.bias.specs.declared.BiasSettings.{BiasSettings}
 use Rattle.bias.specs.Calls.{settings_checks}
@@ -24,9 +23,6 @@ module _ (e : Edition) (s : List ℕ) (m : ℕ) (f : Bool) {n : ℕ} (en : n ≡
     by_settings h =
         later (record_checks e.size e.version s m f) (held_checks e s) (part_numbered e s m f) (sym en ∙ z)
         ∙ ap (λ (b : Bool). refusal_of (cond b (settings_checks (settings_at s)) [])) h
-
-    pub without_settings : not e.settings ≡ true → 0 ≡ refusal_of (edition_checks e s m f)
-    without_settings h = sym (by_settings (untrue e.settings h) ∙ all_pass)
 
     pub with_settings_lem : not e.settings ≡ false → {p : BiasSettings} {k : ℕ} → p ≡ settings_at s → k ≡ refusal_of (settings_checks p)
         → k ≡ refusal_of (edition_checks e s m f)

@@ -1,17 +1,14 @@
 -- A vector that was checked is turned, and not refused; and turning keeps it finite. Assumes nothing.
 use Prim.Native.Nat.{ℕ, ◌<◌}
 use native.Mathlib.Omega.{arith}
-use mathlib.Core.Path.{◌≡◌, ap, sym, ◌∙◌}
+use mathlib.Core.Path.{◌≡◌, ap, ◌∙◌}
 use mathlib.Core.Bool.{true, not}
-use lib.Ieee.{Float}
 use borrow.Author.Tests.{le-ltb}
 use Rattle.answer.specs.declared.Answer.{Answer}
-use Rattle.answer.specs.declared.Answer.TheVariants.{Turned}
-use Rattle.answer.specs.Answers.{values_of}
 use Rattle.answer.specs.Promises.{Answers}
 use Rattle.answer.proofs.Answering.{passes, all_pass, is_new}
 use Rattle.vector.specs.declared.Vector.{Vector}
-use Rattle.vector.specs.Vectors.{vector, finite_vector, from_array_of}
+use Rattle.vector.specs.Vectors.{finite_vector}
 use Rattle.vector.specs.Mounting.{mounting_of, turn_of}
 use Rattle.vector.specs.Turned.{turn_checks, turned_answer}
 use Rattle.vector.proofs.Turning.{each_permutes, turned_turn, finite_turned}
@@ -28,10 +25,6 @@ pub is_turned : (v : Vector) (m : ℕ) {r : Answer} → m < 24 → finite_vector
     → r ≡ turned_answer (turn_of m v)
 is_turned v m h f a =
     is_new _ _ a.exact (passes 4 _ (le-ltb 23 m (omega arith)) ∙ passes 5 _ (ap not f) ∙ all_pass)
-
--- the axes of a turned vector make it
-pub from_axes : {w : Vector} {r : Answer} {x y z : Float} (v : Vector) → r ≡ turned_answer v → r ≡ Turned x y z → w ≡ vector x y z → w ≡ v
-from_axes v e f g = g ∙ ap (λ (a : Answer). from_array_of (values_of a)) (sym f ∙ e)
 
 pub turn_finite : (m : ℕ) (v : Vector) → finite_vector (turn_of m v) ≡ finite_vector v
 turn_finite m v = finite_turned (mounting_of m) (each_permutes m) (turned_turn (mounting_of m) v)

@@ -5,5 +5,4 @@ use Rattle.editions.proofs.settings_at.Goals as goal
 pub returns : goal.returns
 unfolding settings_at
 returns c =
-    let t = c in
-    rw (t.float_at-sample_rate.ensures, t.float_at-cutoff_frequency.ensures, t.float_at-stationary_threshold.ensures, c.float_at-stationary_period.ensures)
+    rw (c.float_at-sample_rate.ensures, c.float_at-cutoff_frequency.ensures, c.float_at-stationary_threshold.ensures, c.float_at-stationary_period.ensures)

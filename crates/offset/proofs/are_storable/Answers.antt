@@ -5,7 +5,5 @@ use Rattle.offset.proofs.are_storable.Goals as goal
 pub returns : goal.returns
 unfolding storable_vector vector_at
 returns c =
-    let y = c in
-    let x = y in
-    rw (x.is_storable.ensures, y.is_storable-2.ensures, c.is_storable-3.ensures)
-    (rw (x.bits_at.ensures, y.bits_at-2.ensures, c.bits_at-3.ensures))
+    rw (c.is_storable.ensures, c.is_storable-2.ensures, c.is_storable-3.ensures)
+    (rw (c.bits_at.ensures, c.bits_at-2.ensures, c.bits_at-3.ensures))

@@ -5,9 +5,5 @@ use Rattle.offset.proofs.offset_at.Goals as goal
 pub returns : goal.returns
 unfolding vector_at
 returns c =
-    let m = c in
-    let z = m in
-    let y = z in
-    let x = y in
-    rw (c.new-vector.ensures, m.u8_at-mounting.ensures, x.float_of-x.ensures, y.float_of-y.ensures, z.float_of-z.ensures, x.bits_at.ensures)
-    (rw (y.bits_at-2.ensures, z.bits_at-3.ensures))
+    rw (c.new-vector.ensures, c.u8_at-mounting.ensures, c.float_of-x.ensures, c.float_of-y.ensures, c.float_of-z.ensures, c.bits_at.ensures)
+    (rw (c.bits_at-2.ensures, c.bits_at-3.ensures))

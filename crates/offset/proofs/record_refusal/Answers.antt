@@ -16,36 +16,25 @@ returns-then-not-has_mark c = rw (agrees _ _ c.if-bytes-length.false, one c.has_
 
 pub returns-then-u16_at-version : goal.returns-then-u16_at-version
 unfolding refusal_of record_checks
-returns-then-u16_at-version c = let m = c in
-    rw (agrees _ _ m.if-bytes-length.false, one m.has_mark.ensures (ap not m.if-not-has_mark.false))
+returns-then-u16_at-version c = rw (agrees _ _ c.if-bytes-length.false, one c.has_mark.ensures (ap not c.if-not-has_mark.false))
     (rw (differs _ _ (λ e. c.if-u16_at-version.true (c.u16_at.ensures ∙ e))))
 
 pub returns-then-mounting-u8_at : goal.returns-then-mounting-u8_at
 unfolding refusal_of record_checks
-returns-then-mounting-u8_at c = let v = c in
-    let m = v in
-    let version = agrees _ _ (sym v.u16_at.ensures ∙ v.if-u16_at-version.false) in
-    rw (agrees _ _ m.if-bytes-length.false, one m.has_mark.ensures (ap not m.if-not-has_mark.false), version)
+returns-then-mounting-u8_at c = let version = agrees _ _ (sym c.u16_at.ensures ∙ c.if-u16_at-version.false) in
+    rw (agrees _ _ c.if-bytes-length.false, one c.has_mark.ensures (ap not c.if-not-has_mark.false), version)
     (rw (sym c.u8_at.ensures, c.if-mounting-u8_at.true))
 
 pub returns-then-not-finite-are_storable : goal.returns-then-not-finite-are_storable
 unfolding refusal_of record_checks
-returns-then-not-finite-are_storable c = let n = c in
-    let v = n in
-    let m = v in
-    let size = m in
-    let version = agrees _ _ (sym v.u16_at.ensures ∙ v.if-u16_at-version.false) in
-    let finite = two {r = size.args.finite} refl c.are_storable.ensures (ap not c.if-not-finite-are_storable.true) in
-    rw (agrees _ _ size.if-bytes-length.false, one m.has_mark.ensures (ap not m.if-not-has_mark.false), version)
-    (rw (sym n.u8_at.ensures, n.if-mounting-u8_at.false, finite))
+returns-then-not-finite-are_storable c = let version = agrees _ _ (sym c.u16_at.ensures ∙ c.if-u16_at-version.false) in
+    let finite = two {r = c.args.finite} refl c.are_storable.ensures (ap not c.if-not-finite-are_storable.true) in
+    rw (agrees _ _ c.if-bytes-length.false, one c.has_mark.ensures (ap not c.if-not-has_mark.false), version)
+    (rw (sym c.u8_at.ensures, c.if-mounting-u8_at.false, finite))
 
 pub returns : goal.returns
 unfolding refusal_of record_checks
-returns c = let n = c in
-    let v = n in
-    let m = v in
-    let size = m in
-    let version = agrees _ _ (sym v.u16_at.ensures ∙ v.if-u16_at-version.false) in
-    let finite = two {r = size.args.finite} refl c.are_storable.ensures (ap not c.if-not-finite-are_storable.false) in
-    rw (agrees _ _ size.if-bytes-length.false, one m.has_mark.ensures (ap not m.if-not-has_mark.false), version)
-    (rw (sym n.u8_at.ensures, n.if-mounting-u8_at.false, finite))
+returns c = let version = agrees _ _ (sym c.u16_at.ensures ∙ c.if-u16_at-version.false) in
+    let finite = two {r = c.args.finite} refl c.are_storable.ensures (ap not c.if-not-finite-are_storable.false) in
+    rw (agrees _ _ c.if-bytes-length.false, one c.has_mark.ensures (ap not c.if-not-has_mark.false), version)
+    (rw (sym c.u8_at.ensures, c.if-mounting-u8_at.false, finite))

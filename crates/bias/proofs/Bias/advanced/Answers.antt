@@ -7,11 +7,8 @@ returns-then-exceeds c = moving _ _ c.exceeds.ensures c.if-exceeds.true
 
 pub returns-then-timer-self : goal.returns-then-timer-self
 returns-then-timer-self c =
-    let moves = c in
-    waiting _ _ moves.exceeds.ensures moves.if-exceeds.false c.if-timer-self.true
+    waiting _ _ c.exceeds.ensures c.if-exceeds.false c.if-timer-self.true
 
 pub returns : goal.returns
 returns c =
-    let waits = c in
-    let moves = waits in
-    learning _ _ moves.exceeds.ensures c.mul.ensures c.add-next.ensures moves.if-exceeds.false waits.if-timer-self.false
+    learning _ _ c.exceeds.ensures c.mul.ensures c.add-next.ensures c.if-exceeds.false c.if-timer-self.false

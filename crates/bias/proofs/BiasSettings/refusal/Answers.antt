@@ -10,7 +10,7 @@ returns-then-not-is_finite c = rw (one c.is_finite.ensures (ap not c.if-not-is_f
 
 pub returns-then-not-self : goal.returns-then-not-self
 unfolding refusal_of
-returns-then-not-self c = let f = c in rw (one f.is_finite.ensures (ap not f.if-not-is_finite.false), (ap not c.if-not-self.true))
+returns-then-not-self c = rw (one c.is_finite.ensures (ap not c.if-not-is_finite.false), (ap not c.if-not-self.true))
 
 pub returns-then-not-is_finite-2 : goal.returns-then-not-is_finite-2
 unfolding refusal_of

@@ -11,9 +11,8 @@ returns-then-number-ne0 c = at_once_by _ _ c.move_refusal-number.ensures c.if-nu
 
 pub returns : goal.returns
 returns c =
-    let t = c in
-    let a = t.args in
+    let a = c.args in
     c.refusal.ensures
     ∙ sym
     (later (move_checks first second a.source.now a.room) _ (move_numbered a.source.now a.settings a.room)
-    (sym t.move_refusal-number.ensures ∙ t.if-number-ne0.false))
+    (sym c.move_refusal-number.ensures ∙ c.if-number-ne0.false))
