@@ -64,6 +64,7 @@ fn answer(n: usize, text: [u8; 13]) -> MountingRead
 }
 
 // A line after one byte more.
+#[tactic(auto, using(crate::proofs::Keeping::ended, crate::proofs::Keeping::stored, crate::proofs::Keeping::counted))]
 fn kept(line: Line, byte: u8) -> Line
     ensures { result ≡ kept_of line byte }
 {
