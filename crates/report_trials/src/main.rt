@@ -43,7 +43,7 @@ fn join(left: usize, part: &[u8], buffer: &mut [u8]) -> usize {
     if part.len() > buffer.len() - left {
         return left;
     }
-    text::copy(part, &mut buffer[left..]);
+    buffer[left..left + part.len()].copy_from_slice(part);
     left + part.len()
 }
 

@@ -53,7 +53,7 @@ pub fn word(n: u32) -> [u8; 8]
 
 // Copies a text to the start of `out`, which has room for it; how many bytes it has.
 #[tactic(auto, unfolding(crate::specs::Putting::over))]
-pub fn copy(text: &[u8], out: &mut [u8]) -> usize
+pub(crate) fn copy(text: &[u8], out: &mut [u8]) -> usize
     requires { length text.now ≤ length out.old }
     ensures { Puts text.now out.old out.new result }
 {

@@ -1,8 +1,8 @@
-// What the lines of a program say of its run: how many there are, and the first that is a refusal. A program has no exit status,
-// so it names that refusal on standard error, and ./gateweave makes the status of it.
+// What the lines of a program say of its run: how many there are, and the first that is a refusal. A program's own status says nothing of
+// a refusal: it is named on standard error, and ./gateweave makes the status of it.
 #![tactic(auto)]
 
-ghost use Rattle.std.specs.Prelude.{◌≡◌, ◌≤◌, length, not, eqb};
+ghost use Rattle.std.specs.Prelude.{◌≡◌, ◌⊎◌, ◌≤◌, length, not, eqb};
 ghost use Rattle.verdict.specs.Verdict.{no_verdict, next_of, digit_of, byte_of, verdict_of, is_refused};
 
 use std::io::{Cursor, Error, ErrorKind, Write};
@@ -170,7 +170,9 @@ fn words(text: &[u8]) -> usize
 
 // Names a read or a write that failed, as `replay: standard input: Is a directory`, and gives the status that the program ends with: 0,
 // since the line says all. Where the reader of the output has gone nothing is said, and the status is that of a program which that ends.
-pub fn tell_failed(what: &[u8], error: Error) -> u8 {
+pub fn tell_failed(what: &[u8], error: Error) -> u8
+    ensures { (result ≡ 0) ⊎ (result ≡ 141) }
+{
     if matches!(error.kind(), ErrorKind::BrokenPipe) {
         return READER_GONE;
     }
