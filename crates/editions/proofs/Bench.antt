@@ -39,7 +39,8 @@ pub bench_moved
     × (refusal_of (down_checks long 18) ≡ 0)
     × (down_of long ≡ row)
     × (settings_at long ≡ given)
-unfolding refusal_of record_checks has_mark vector_at storable_vector storable is_minus_zero finite_settings coefficient_of settings_at of_bits to_bits lt mul div
+unfolding refusal_of record_checks has_mark vector_at storable_vector storable is_minus_zero finite_settings coefficient_of settings_at of_bits to_bits lt mul
+    div
 bench_moved = (refl, refl, refl, refl, refl)
 
 -- with another pattern for the rate, the cutoff, or x of the offset
@@ -62,6 +63,6 @@ judged =
 pub bench_refused
     : map (λ (s : List ℕ). refusal_of (restore_checks running s 0)) judged
     ≡ 0 ∷ 0 ∷ 0 ∷ 1 ∷ 1 ∷ 2 ∷ 3 ∷ 3 ∷ 4 ∷ 5 ∷ 5 ∷ 5 ∷ 6 ∷ 6 ∷ 6 ∷ 7 ∷ []
-unfolding refusal_of record_checks has_mark vector_at storable_vector storable is_minus_zero finite_vector finite_bias finite_settings coefficient_of settings_at
-    of_bits lt mul div
+unfolding refusal_of record_checks has_mark vector_at storable_vector storable is_minus_zero finite_vector finite_bias finite_settings coefficient_of
+    settings_at of_bits lt mul div
 bench_refused = refl

@@ -88,7 +88,8 @@ pub of_move_down
     × ((after : List ℕ) → MovesDown (rated 0) blank after 0 → ⊥)
     × (MovesDown (rated 0) blank row 6 → ⊥)
     × (MovesDown long blank34 long 0 → ⊥)
-unfolding refusal_of record_checks has_mark vector_at storable_vector storable is_minus_zero finite_settings coefficient_of settings_at of_bits to_bits lt mul div
+unfolding refusal_of record_checks has_mark vector_at storable_vector storable is_minus_zero finite_settings coefficient_of settings_at of_bits to_bits lt mul
+    div
 of_move_down = (
   λ h. unlike 2 1 refl (ap (at 3) h.holds),
   λ h. unlike 0 0x47 refl (ap (at 0) h.holds),
@@ -138,8 +139,8 @@ pub of_restore
     × (Restores running long 0 (gives (with_offset running (vector one minus_two half)) 0) → ⊥)
     × (Restores running long 0 (gives (with_timer restored 0) 0) → ⊥)
     × (Restores running (rated 1) 0 (gives restored 7) → ⊥)
-unfolding refusal_of record_checks has_mark vector_at storable_vector storable is_minus_zero finite_vector finite_bias finite_settings coefficient_of settings_at
-    reframed_of inverse_of compose_of first same name_of mounting_of neg of_bits lt mul div
+unfolding refusal_of record_checks has_mark vector_at storable_vector storable is_minus_zero finite_vector finite_bias finite_settings coefficient_of
+    settings_at reframed_of inverse_of compose_of first same name_of mounting_of neg of_bits lt mul div
 of_restore = (
   λ h. unlike 25 1 refl (ap (λ (b : Bias). odd b.settings.sample_rate) h.holds),
   λ b h. let e = h.number in omega arith,

@@ -15,7 +15,8 @@ returns-then-offset-gt23 c = rw (agrees _ 18 c.if-room-ne-LENGTH.false, lt-ltb 2
 
 pub returns-then-not-is_finite : goal.returns-then-not-is_finite
 unfolding refusal_of
-returns-then-not-is_finite c = rw (agrees _ 18 c.if-room-ne-LENGTH.false, le-ltb 23 _ c.if-offset-gt23.false, one c.is_finite.ensures (ap not c.if-not-is_finite.true))
+returns-then-not-is_finite c =
+    rw (agrees _ 18 c.if-room-ne-LENGTH.false, le-ltb 23 _ c.if-offset-gt23.false, one c.is_finite.ensures (ap not c.if-not-is_finite.true))
 
 pub returns : goal.returns
 unfolding refusal_of
