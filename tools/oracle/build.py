@@ -207,7 +207,7 @@ def toolchain():
     """The Rattle toolchain's folder."""
     if not shutil.which("rt"):
         stop("the Rattle toolchain is missing: no command rt on the path")
-    return pathlib.Path(quietly("rt", "doc", why="the Rattle toolchain does not answer: rt doc").strip()).parents[1]
+    return pathlib.Path(quietly("rt", "doc", why="the Rattle toolchain does not answer: rt doc").strip()).parent
 
 
 def program(name):
