@@ -107,8 +107,7 @@ def counted(counter, program, row, how=""):
 
 def recorded(counter, name, update):
     """Counts a record of a program that reads a log, and on x86-64 times a million."""
-    program = build.program(name)
-    words = program if NATIVE else program[1:]
+    words = build.program(name)
     each = counting.record([*counter, *words])
     print(f"{name}, a record: {each:.1f} instructions, {each / update:.2f} times an update that is called", flush=True)
     if NATIVE:

@@ -4,7 +4,7 @@ are cut to bare words and signs, which must be the same.
 
 usage: tools/exporter/bare.py REPOSITORY TOOLCHAIN CRATE
 
-From the Rattle go comments, ghost imports and clauses, and `std::num::` is `num::`. From the Rust go comments, the one derive and
+From the Rattle go comments, ghost imports, attributes and clauses, and `std::num::` is `num::`. From the Rust go comments, the one derive and
 `crate::`, and `in crate::NAME` is `crate`. Of the toolchain's libraries each function is held to the one of its name.
 """
 import pathlib
@@ -12,7 +12,7 @@ import re
 import sys
 
 DERIVE = "#[derive(Clone, Copy, Debug)]"
-LIBRARIES = {"num": "std/src/num.rt", "bytes": "bytes/src/lib.rt", "io": "io/src/number.rt"}
+LIBRARIES = {"num": "core/src/num.rt", "io": "io/src/number.rt"}
 
 
 def words(text):
@@ -25,7 +25,8 @@ def without_comments(text):
 
 def rattle(text):
     """A Rattle text without what is the prover's."""
-    text = re.sub(r"(?m)^ghost use [^;]*;", "", without_comments(text))
+    text = re.sub(r"(?m)^ghost use [^;]*;", "", without_comments(text)).replace("#[derive(Clone, Copy)]", "")
+    text = re.sub(r"(?m)^ *#!?\[tactic\(.*?\)\]$", "", text, flags=re.S)
     kept, at = "", 0
     for clause in re.finditer(r"(?m)^\s*(?:requires|ensures)\b[^{\n]*\{", text):
         if clause.start() < at:
@@ -46,7 +47,7 @@ def rust(text):
 
 def functions(text):
     """Each function at the left margin by its name."""
-    return {m[1]: words(m[0]) for m in re.finditer(r"(?ms)^(?:pub )?fn (\w+).*?^\}", text)}
+    return {m[1]: words(m[0]) for m in re.finditer(r"(?ms)^(?:pub )?(?:const )?fn (\w+).*?^\}", text)}
 
 
 def compared(name, ours, theirs):
@@ -69,7 +70,7 @@ def main(repository, toolchain, crate):
     for path in sorted(made):
         name, text = path.parts[0], rust((source / path).with_suffix(".rs").read_text("utf-8"))
         if name in LIBRARIES:
-            theirs = functions(rattle((toolchain / "libs" / LIBRARIES[name]).read_text("utf-8")))
+            theirs = functions(rattle((toolchain / "rattle" / LIBRARIES[name]).read_text("utf-8")))
             ours = functions(text)
             count += compared(path, words(text), sum(ours.values(), []))
             count += sum(compared(f"{name}::{f}", ours[f], theirs[f]) for f in ours) - len(words(text))

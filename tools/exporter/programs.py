@@ -24,7 +24,7 @@ def write(project, name, into, device=False):
     made = {stem: rules.rust("", t, paths, methods, rules.PROGRAMS) for stem, t in {**texts, **apart}.items()}
     wanted = {lib: functions for lib, functions in project.wanted(texts.values()).items() if lib != "io"}
     for lib, functions in wanted.items():
-        made[lib] = rules.rust(lib, rules.library(project.kit, lib, functions), {}, methods, asks=True)
+        made[lib] = project.module(lib, "lib", rules.library(project.kit, lib, functions))
     made["main"] = "#![no_std]\n#![no_main]\n" * device + made["main"] + "".join(f"mod {m};\n" for m in ("libc", "system", *apart, *wanted))
     made["libc"], made["system"] = ((HERE / file).read_text("utf-8") for file in ("device.rs" if device else "host.rs", "system.rs"))
     into.mkdir(parents=True)

@@ -10,13 +10,17 @@ import shutil
 # Crates that are no part of the Rust crate: one says on standard error what the lines of a run say, one has loops for the counter.
 APART = ("verdict", "cost")
 # The toolchain's libraries, of which the functions that are called go along; they ask something of their callers, so they stay private.
-KIT = {"num": "std/src/num.rt", "bytes": "bytes/src/lib.rt", "io": "io/src/number.rt"}
+KIT = {"num": "core/src/num.rt", "io": "io/src/number.rt"}
 
 KEYWORDS = set("use pub mod crate super fn struct enum impl const let mut if else return match while loop break as self true false".split())
 TYPES = set("u8 u16 u32 u64 usize i8 i16 i32 i64 isize f32 f64 bool".split())
 # What a built-in type has under the same name and with the same meaning in both languages, off a NaN.
 ASSOCIATED = {f"{t}::{n}" for t in ("f32", "f64") for n in ("to_bits", "from_bits")}
 ASSOCIATED |= {f"{t}::{n}" for t in ("u8", "u16", "u32", "u64", "usize") for n in ("leading_zeros", "MAX")}
+# What is a method of such a type in both.
+METHODS = {"len", "copy_from_slice", "wrapping_add"}
+# The public functions that ask something of their callers, by their crates: Rust panics where it is not met.
+ASKING = {"text": {"copy"}}
 # Names that Rust has in every file.
 PRELUDE = set("""Some None Ok Err Option Result Box String Vec ToString ToOwned drop Drop Fn FnMut FnOnce AsRef AsMut Clone Copy Iterator
     IntoIterator Extend DoubleEndedIterator ExactSizeIterator From Into TryFrom TryInto FromIterator Default Send Sync Sized Unpin PartialEq
@@ -36,8 +40,10 @@ TOKEN = re.compile(r"""(?P<space>\n|[ ]+)|(?P<comment>//[^\n]*)
     |(?P<word>[A-Za-z_][A-Za-z0-9_]*)|(?P<sign>""" + "|".join(map(re.escape, KNOWN)) + r"""|[(){}\[\],;:=<>+\-*/%&|^!.])""", re.X)
 CLAUSE = re.compile(r"[ ]+(?:requires|ensures)(?: [a-z_]+)? \{")
 GHOST = re.compile(r"ghost use [^;]*;\n")
-ITEM = re.compile(r" *(pub(?:\(.*?\))? )?(fn|struct|enum|const) ")
-FUNCTION = re.compile(r"(?:pub(?:\(crate\))? )?fn ([a-z_0-9]+)")
+# What a crate or a function asks of the prover, and that a type is copied, which each is here.
+ATTRIBUTE = re.compile(r"[ ]*#(?:!?\[tactic\([^\]]*\)|\[derive\(Clone, Copy\))\]\n")
+ITEM = re.compile(r" *(pub(?:\(.*?\))? )?(?:const (?=fn ))?(fn|struct|enum|const) ")
+FUNCTION = re.compile(r"(?:pub(?:\(crate\))? )?(?:const )?fn ([a-z_0-9]+)")
 METHOD = re.compile(r"(?m)^    (?:pub(?:\(crate\))? )?fn ([a-z_0-9]+)\(\s*(?:mut )?self\b")
 
 LIB = """//! The proved core of Gateweave, an attitude filter, as Rust: a module for each of its crates. The text is the proved text; what
@@ -76,11 +82,11 @@ def clause_end(text, at):
 
 
 def scan(text):
-    """The tokens of a text, as pairs of a kind and what stands there. A clause is one token, and a ghost import none."""
+    """The tokens of a text, as pairs of a kind and what stands there. A clause is one token, and a ghost import or an attribute none."""
     at, found = 0, []
     while at < len(text):
         starts = at == 0 or text[at - 1] == "\n"
-        if starts and (ghost := GHOST.match(text, at)):
+        if starts and (ghost := GHOST.match(text, at) or ATTRIBUTE.match(text, at)):
             at = ghost.end()
         elif starts and (clause := CLAUSE.match(text, at)):
             end = clause_end(text, clause.end() - 1)
@@ -108,7 +114,7 @@ def judge_word(tokens, i, methods, allowed):
         raise Unknown(f"the word {word}")
     if after == "!" and word not in KEYWORDS:
         raise Unknown(f"a macro {word}!")
-    if before == "." and after == "(" and word != "len" and word not in methods:
+    if before == "." and after == "(" and word not in METHODS and word not in methods:
         raise Unknown(f"a method {word} that no type here has")
     if word in TYPES and after == "::":
         name = word + "".join(t for _, t in tokens[i + 1:i + 3])
@@ -181,23 +187,24 @@ def contract(pad, clauses, commented):
 
 
 def documented(text, clauses, asks):
-    """The lines with each comment above an item as its doc comment, and behind it the clauses of its contract; types are copied, as a
-    value of Rattle is."""
+    """The lines with each comment above an item as its doc comment, and behind it the clauses of its contract; types are copied. Of the
+    public functions those that are named may ask something of their callers."""
     out, clauses = [], iter(clauses)
-    # Of a function whose body has not begun: where its signature stands, whether it is public, and its clauses.
-    item, public, own = None, False, []
+    # Of a function whose body has not begun: where its signature stands, whether it may ask nothing, and its clauses.
+    item, plain, own = None, False, []
     for line in text.split("\n"):
         pad = " " * (len(line) - len(line.lstrip()))
         if match := ITEM.match(line):
             comment(out, pad)
-            item, public, own = len(out) if match[2] == "fn" else None, match[1] == "pub ", []
+            name = re.match(r"\w+", line[match.end():])[0]
+            item, plain, own = len(out) if match[2] == "fn" else None, match[1] == "pub " and name not in asks, []
             out += [pad + "#[derive(Clone, Copy, Debug)]"] * (match[2] in ("struct", "enum"))
         if line == "\0":
             if item is None:
                 raise Unknown("a clause outside a signature")
             own.append(next(clauses))
         elif line == pad + "{" and own:
-            if public and not asks and any(clause.lstrip().startswith("requires") for clause in own):
+            if plain and any(clause.lstrip().startswith("requires") for clause in own):
                 raise Unknown("a public function that asks something of its caller")
             out[-1] += " {"
             out[item:item] = contract(pad, own, item > 0 and out[item - 1].startswith(pad + "///"))
@@ -219,7 +226,7 @@ def headed(text):
     return "".join(f"//!{line[2:]}\n" for line in head.group().splitlines()) + ("" if rest.startswith("\n") else "\n") + rest
 
 
-def rust(name, text, paths, methods, allowed=frozenset(), asks=False):
+def rust(name, text, paths, methods, allowed=frozenset(), asks=frozenset()):
     """One file of a crate as a file of the module `name`, or of a crate by itself where it has none."""
     tokens = scan(text)
     judge(tokens, methods, allowed)
@@ -252,7 +259,7 @@ def called(text, names):
 
 def library(kit, name, wanted):
     """The functions of a library that are wanted, and those that they call, in the library's order."""
-    known = functions((kit / "libs" / KIT[name]).read_text("utf-8"))
+    known = functions((kit / "rattle" / KIT[name]).read_text("utf-8"))
     if missing := wanted - known.keys():
         raise Unknown(f"{name} has no function {sorted(missing)[0]}")
     found, new = set(), set(wanted)
@@ -268,7 +275,7 @@ class Project:
 
     def __init__(self, top, kit):
         self.top, self.kit = pathlib.Path(top), pathlib.Path(kit)
-        self.rows = {c: set(r.split()) for c, r in re.findall(r"(?m)^([a-z]+):(.*)$", (self.top / "crates.txt").read_text("utf-8"))}
+        self.rows = {c: set(r.split()) for c, r in re.findall(r"(?m)^([a-z_]+):(.*)$", (self.top / "crates.txt").read_text("utf-8"))}
         self.crates = [c for c in self.rows if c not in APART and self.has_code(c)]
         # Crates of laws alone: no text can call what they do not have.
         self.laws = [c for c in self.rows if "lib" in self.files(c) and not self.has_code(c)]
@@ -278,7 +285,7 @@ class Project:
             # A path that begins with the name would be either's.
             if clash := {stem for c, stem in self.texts if c == crate} & {*self.rows[crate], *KIT}:
                 raise Unknown(f"a module and a crate of one name, {sorted(clash)[0]}")
-            if missing := self.rows[crate] - {*self.crates, *self.laws, *KIT, "libc"}:
+            if missing := self.rows[crate] - {*self.crates, *self.laws, *KIT}:
                 raise Unknown(f"{crate} stands on {sorted(missing)[0]}, which is not exported")
 
     def files(self, crate):
@@ -302,7 +309,7 @@ class Project:
         """A file of a crate as a file of its module."""
         paths = {c: "crate::" for c in self.rows.get(crate, set())}
         try:
-            return rust(crate, text, paths, self.methods, asks=crate in KIT)
+            return rust(crate, text, paths, self.methods, asks=functions(text) if crate in KIT else ASKING.get(crate, ()))
         except Unknown as unknown:
             raise Unknown(f"{crate}/src/{stem}.rt: {unknown}") from None
 
