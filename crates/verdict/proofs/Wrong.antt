@@ -4,6 +4,7 @@ use native.Mathlib.Omega.{arith}
 use mathlib.Core.Path.{◌≡◌, ap}
 use mathlib.Core.Bool.{true, false, not}
 use mathlib.Core.List.{List, [], ◌∷◌, ◌++◌}
+use mathlib.Core.Logic.{◌⊎◌, inl, inr}
 use lib.Dec.{eqb}
 use Rattle.verdict.specs.declared.Verdict.{Verdict}
 use Rattle.verdict.specs.Verdict.{verdict, no_verdict, next_of, digit_of, byte_of, verdict_of, is_refused}
@@ -47,3 +48,7 @@ of_tell = (λ h. let z : ◌≡◌ {A = ℕ} 0 1 = cc in omega arith, λ h. let 
 -- of the number 8, none told; of 0, one
 pub of_tell_log : (false ≡ not (eqb 8 0) → ⊥) × (true ≡ not (eqb 0 0) → ⊥)
 of_tell_log = (λ h. let z : ◌≡◌ {A = ℕ} 0 1 = cc in omega arith, λ h. let z : ◌≡◌ {A = ℕ} 0 1 = cc in omega arith)
+
+-- the status of a failure: 1, as of a refusal; 2
+pub of_tell_failed : (◌⊎◌ (◌≡◌ {A = ℕ} 1 0) (◌≡◌ {A = ℕ} 1 141) → ⊥) × (◌⊎◌ (◌≡◌ {A = ℕ} 2 0) (◌≡◌ {A = ℕ} 2 141) → ⊥)
+of_tell_failed = (λ h. elim h [ inl e ↦ omega (arith, e) | inr e ↦ omega (arith, e) ], λ h. elim h [ inl e ↦ omega (arith, e) | inr e ↦ omega (arith, e) ])
