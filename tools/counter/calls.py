@@ -1,6 +1,8 @@
 """`tools/size`: the calls of the mountings, each by itself in a library, proved and compiled; their bytes, and the instructions of a call."""
+import pathlib
 import shutil
 import subprocess
+import tempfile
 
 import build
 import command
@@ -12,6 +14,9 @@ import packages
 SIZE = build.TOP / "target/size"
 # Each call in an exported function of its own.
 TEXT = """\
+// The calls, each by itself.
+#![tactic(auto)]
+
 use alignment::MatrixRead;
 use answer::Answer;
 use remap::MountingRead;
@@ -28,17 +33,17 @@ fn put_turned(turned: Answer, v: &mut [f32; 3]) -> u8 {
     }
 }
 
-#[no_mangle]
+#[unsafe(no_mangle)]
 pub extern "C" fn call_turn(mounting: u8, v: &mut [f32; 3]) -> u8 {
     put_turned(Vector::new(v[0], v[1], v[2]).turned(mounting), v)
 }
 
-#[no_mangle]
+#[unsafe(no_mangle)]
 pub extern "C" fn call_rotate(mounting: u8, v: &mut [f32; 3]) -> u8 {
     put_turned(alignment::rotate(Vector::new(v[0], v[1], v[2]), mounting), v)
 }
 
-#[no_mangle]
+#[unsafe(no_mangle)]
 pub extern "C" fn call_to_matrix(mounting: u8, m: &mut [[f32; 3]; 3]) -> u8 {
     match alignment::to_matrix(mounting) {
         MatrixRead::Read(matrix) => {
@@ -56,27 +61,27 @@ fn number_of(read: MountingRead) -> u8 {
     }
 }
 
-#[no_mangle]
+#[unsafe(no_mangle)]
 pub extern "C" fn call_compose(first: u8, second: u8) -> u8 {
     number_of(remap::compose(first, second))
 }
 
-#[no_mangle]
+#[unsafe(no_mangle)]
 pub extern "C" fn call_inverse(mounting: u8) -> u8 {
     number_of(remap::inverse(mounting))
 }
 
-#[no_mangle]
+#[unsafe(no_mangle)]
 pub extern "C" fn call_write_name(mounting: u8, name: &mut [u8]) -> u8 {
     remap::write_name(mounting, name)
 }
 
-#[no_mangle]
+#[unsafe(no_mangle)]
 pub extern "C" fn call_read_name(name: &[u8]) -> u8 {
     number_of(remap::read_name(name))
 }
 
-#[no_mangle]
+#[unsafe(no_mangle)]
 pub extern "C" fn call_turn_run(mounting: u8, source: &[f32], turned: &mut [f32]) -> u8 {
     turning::turn_run(mounting, source, turned)
 }
@@ -93,27 +98,27 @@ def needed(crates, name):
 
 
 def library():
-    """The archive of the library, proved; crates that were proved before are not proved again."""
+    """The folder of the library, proved and compiled, where no gate looks for crates; those that were proved before are not proved again."""
     if not shutil.which("rt"):
         command.stop("the Rattle toolchain is missing: no command rt on the path")
     lines = [line.split("#")[0] for line in (build.TOP / "crates.txt").read_text().splitlines()]
     crates = {name.strip(): below.split() for name, _, below in (line.partition(":") for line in lines) if name.strip()}
     crates["calls"] = ["turning", "alignment", "remap", "math", "vector", "answer"]
     taken = needed(crates, "calls")
-    target = SIZE / "target"
     shutil.rmtree(SIZE, ignore_errors=True)
-    (SIZE / "crates/calls/src").mkdir(parents=True)
-    (SIZE / "crates/calls/src/lib.rt").write_text(TEXT)
-    (SIZE / "crates.txt").write_text("".join(" ".join((f"{name}:", *below)) + "\n" for name, below in crates.items() if name in taken))
-    for name in taken - {"calls"}:
-        shutil.copytree(build.TOP / "crates" / name, SIZE / "crates" / name)
-        for kept in ("rlib", "stamp"):
-            for found in (build.TOP / "target" / kept).glob(f"{name}*"):
-                (target / kept).mkdir(parents=True, exist_ok=True)
-                (shutil.copytree if found.is_dir() else shutil.copy2)(found, target / kept / found.name)
+    SIZE.mkdir(parents=True)
     command.say("proving and compiling the calls ..")
-    build.quietly("rt", "staticlib", "calls", why="the calls are not proved", cwd=SIZE)
-    return target / "staticlib"
+    with tempfile.TemporaryDirectory() as folder:
+        top = pathlib.Path(folder)
+        (top / "crates/calls/src").mkdir(parents=True)
+        (top / "crates/calls/src/lib.rt").write_text(TEXT)
+        rows = ((f"{name} staticlib:" if name == "calls" else f"{name}:", *below) for name, below in crates.items() if name in taken)
+        (top / "crates.txt").write_text("".join(" ".join(row) + "\n" for row in rows))
+        for name in taken - {"calls"}:
+            shutil.copytree(build.TOP / "crates" / name, top / "crates" / name, ignore=shutil.ignore_patterns("incremental"))
+        build.quietly("rt", "lib", why="the calls are not proved", cwd=top / "crates/calls")
+        shutil.copy(top / "crates/calls/out/libcalls.a", SIZE)
+    return SIZE
 
 
 def driver(archive):

@@ -3,9 +3,11 @@ of `report`."""
 import collections
 import pathlib
 import platform
+import re
 import shutil
 import subprocess
 import sys
+import tempfile
 import time
 
 import build
@@ -36,15 +38,11 @@ def compiler():
     return (["rustc"], []) if NATIVE else packages.compiler("x86_64")
 
 
-def without_files(name, files):
-    """A copy of the crates without some files of crates/cost; what is proved already is not proved again."""
-    top = BENCH / "loops" / name
-    shutil.rmtree(top, ignore_errors=True)
-    top.mkdir(parents=True)
-    shutil.copy(build.TOP / "crates.txt", top)
-    shutil.copytree(build.TOP / "crates", top / "crates")
-    for part in ("rlib", "stamp"):
-        shutil.copytree(build.TOP / "target" / part, top / "target" / part)
+def without_files(top, files):
+    """A copy of the crates, in which crates/cost is a static library without some of its files; what is proved already is not proved again."""
+    shutil.copytree(build.TOP / "crates", top / "crates", ignore=shutil.ignore_patterns("incremental"))
+    rows = (build.TOP / "crates.txt").read_text("utf-8")
+    (top / "crates.txt").write_text(re.sub("(?m)^cost:", "cost staticlib:", rows), "utf-8")
     lib = top / "crates/cost/src/lib.rt"
     for file in files:
         lib.with_name(f"{file}.rt").unlink()
@@ -54,13 +52,17 @@ def without_files(name, files):
 
 
 def archive(name, without):
-    """The folder of the port's loops for a driver, proved and compiled."""
+    """The folder of the port's loops for a driver, proved and compiled. They are copied to where no gate looks for crates."""
     if not shutil.which("rt"):
         command.stop("the Rattle toolchain is missing: no command rt on the path")
     command.say(f"proving and compiling the port's loops, {name} ..")
-    top = without_files(name, without) if without else build.TOP
-    build.quietly("rt", "staticlib", "cost", why="the port's loops are not proved", cwd=top)
-    return top / "target/staticlib"
+    into = BENCH / "loops" / name
+    into.mkdir(parents=True, exist_ok=True)
+    with tempfile.TemporaryDirectory() as folder:
+        top = without_files(pathlib.Path(folder), without)
+        build.quietly("rt", "lib", why="the port's loops are not proved", cwd=top / "crates/cost")
+        shutil.copy(top / "crates/cost/out/libcost.a", into)
+    return into
 
 
 def driver(rustc, link, rust, libm, port, name, file):

@@ -6,6 +6,14 @@ pub const STDIN_FILENO: i32 = 0;
 pub const STDOUT_FILENO: i32 = 1;
 pub const STDERR_FILENO: i32 = 2;
 
+pub struct ExitCode;
+
+impl From<u8> for ExitCode {
+    fn from(_: u8) -> ExitCode {
+        ExitCode
+    }
+}
+
 const EXIT: usize = 1;
 const READ: usize = 3;
 const WRITE: usize = 4;
@@ -37,7 +45,7 @@ fn exit(status: usize) -> ! {
 
 #[unsafe(no_mangle)]
 extern "C" fn begin() -> ! {
-    crate::main();
+    let _ = crate::main();
     exit(0)
 }
 

@@ -2,6 +2,8 @@
 
 use std::io::{Read, Write};
 
+pub use std::process::ExitCode;
+
 pub const STDIN_FILENO: i32 = 0;
 pub const STDOUT_FILENO: i32 = 1;
 pub const STDERR_FILENO: i32 = 2;

@@ -18,7 +18,7 @@ TYPES = set("u8 u16 u32 u64 usize i8 i16 i32 i64 isize f32 f64 bool".split())
 ASSOCIATED = {f"{t}::{n}" for t in ("f32", "f64") for n in ("to_bits", "from_bits")}
 ASSOCIATED |= {f"{t}::{n}" for t in ("u8", "u16", "u32", "u64", "usize") for n in ("leading_zeros", "MAX")}
 # What is a method of such a type in both.
-METHODS = {"len", "copy_from_slice", "wrapping_add"}
+METHODS = {"len", "copy_from_slice", "wrapping_add", "wrapping_sub"}
 # The public functions that ask something of their callers, by their crates: Rust panics where it is not met.
 ASKING = {"text": {"copy"}}
 # Names that Rust has in every file.
@@ -32,12 +32,15 @@ RESERVED = set("""abstract async await become box continue do dyn ensures extern
 KNOWN = ("::", "->", "=>", "..", "==", "!=", "<=", ">=", "<<", ">>", "+=", "-=", "/=")
 JOINED = {"&&", "||", "/*", "//", "*=", "%=", "^=", "&=", "|=", "..=", "...", "<<=", ">>=", "<-"}
 # What the programs have beside that, which are written only to be run on their stored inputs.
-PROGRAMS = {"type", "for", "in", "&&", "||", "..="}
+PROGRAMS = {"type", "for", "in", "&&", "||", "..=", "?", "Ok", "Err", "Result"}
+# Their methods of built-in types and of what they have of the system, and the parts of std that this is.
+SYSTEM = {"min", "stdin", "read", "write_all", "arg"}
+STD = {"io", "env", "process"}
 
 TOKEN = re.compile(r"""(?P<space>\n|[ ]+)|(?P<comment>//[^\n]*)
     |(?P<bytes>b"(?:\\[\\"n\n]|\\x[0-9a-fA-F]{2}|[\x20\x21\x23-\x5b\x5d-\x7e])*"|b'(?:\\[n'\\]|[\x20-\x26\x28-\x5b\x5d-\x7e])')
     |(?P<number>0x[0-9a-fA-F_]+(?:u8|u16|u32|u64)?|0b[01_]+|[0-9][0-9_]*(?:\.[0-9][0-9_]*)?(?:u8|u16|u32|u64|usize|i32|i64|f32|f64)?)(?![A-Za-z0-9_])
-    |(?P<word>[A-Za-z_][A-Za-z0-9_]*)|(?P<sign>""" + "|".join(map(re.escape, KNOWN)) + r"""|[(){}\[\],;:=<>+\-*/%&|^!.])""", re.X)
+    |(?P<word>[A-Za-z_][A-Za-z0-9_]*)|(?P<sign>""" + "|".join(map(re.escape, KNOWN)) + r"""|[(){}\[\],;:=<>+\-*/%&|^!.?])""", re.X)
 CLAUSE = re.compile(r"[ ]+(?:requires|ensures)(?: [a-z_]+)? \{")
 GHOST = re.compile(r"ghost use [^;]*;\n")
 # What a crate or a function asks of the prover, and that a type is copied, which each is here.
@@ -110,7 +113,7 @@ def solid(tokens, i, step):
 
 def judge_word(tokens, i, methods, allowed):
     word, before, after = tokens[i][1], solid(tokens, i, -1), solid(tokens, i, 1)
-    if word in RESERVED - allowed or word in PRELUDE:
+    if word in (RESERVED | PRELUDE) - allowed:
         raise Unknown(f"the word {word}")
     if after == "!" and word not in KEYWORDS:
         raise Unknown(f"a macro {word}!")
@@ -142,6 +145,8 @@ def judge(tokens, methods, allowed):
             raise Unknown("a closure, or a pattern that begins with a bar")
         if t == ".." and opened[-1:] != ["["] and not allowed:
             raise Unknown("a range outside an index")
+        if t == "?" and t not in allowed:
+            raise Unknown("a question mark")
         if t in "([{":
             opened.append(t)
         if t in ")]}":
@@ -157,9 +162,10 @@ def renamed(tokens, name, paths):
             clauses.append(t)
             t = "\0"
         elif kind == "word" and t == "std" and after == "::":
-            if "".join(x for _, x in tokens[i:i + 4]) != "std::num::":
+            part = tokens[i + 2][1]
+            if part != "num" and (name or part not in STD):
                 raise Unknown("a part of std other than num")
-            t = "crate"
+            t = "crate" if part == "num" else "crate::system"
         elif kind == "word" and t == "crate":
             if before != "(":
                 raise Unknown("crate outside pub(crate)")
