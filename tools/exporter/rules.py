@@ -19,8 +19,6 @@ ASSOCIATED = {f"{t}::{n}" for t in ("f32", "f64") for n in ("to_bits", "from_bit
 ASSOCIATED |= {f"{t}::{n}" for t in ("u8", "u16", "u32", "u64", "usize") for n in ("leading_zeros", "MAX")}
 # What is a method of such a type in both.
 METHODS = {"len", "copy_from_slice", "wrapping_add", "wrapping_sub"}
-# The public functions that ask something of their callers, by their crates: Rust panics where it is not met.
-ASKING = {"text": {"copy"}}
 # Names that Rust has in every file.
 PRELUDE = set("""Some None Ok Err Option Result Box String Vec ToString ToOwned drop Drop Fn FnMut FnOnce AsRef AsMut Clone Copy Iterator
     IntoIterator Extend DoubleEndedIterator ExactSizeIterator From Into TryFrom TryInto FromIterator Default Send Sync Sized Unpin PartialEq
@@ -315,7 +313,7 @@ class Project:
         """A file of a crate as a file of its module."""
         paths = {c: "crate::" for c in self.rows.get(crate, set())}
         try:
-            return rust(crate, text, paths, self.methods, asks=functions(text) if crate in KIT else ASKING.get(crate, ()))
+            return rust(crate, text, paths, self.methods, asks=functions(text) if crate in KIT else ())
         except Unknown as unknown:
             raise Unknown(f"{crate}/src/{stem}.rt: {unknown}") from None
 
