@@ -17,9 +17,7 @@ TEXT = """\
 // The calls, each by itself.
 #![tactic(auto)]
 
-use alignment::MatrixRead;
-use answer::Answer;
-use remap::MountingRead;
+use answer::{Answer, Refusal, number_in};
 use vector::Vector;
 
 fn put_turned(turned: Answer, v: &mut [f32; 3]) -> u8 {
@@ -28,7 +26,7 @@ fn put_turned(turned: Answer, v: &mut [f32; 3]) -> u8 {
             *v = [x, y, z];
             0
         }
-        Answer::Refused(number) => number,
+        Answer::Refused(refusal) => refusal.number(),
         _ => 255,
     }
 }
@@ -46,18 +44,18 @@ pub extern "C" fn call_rotate(mounting: u8, v: &mut [f32; 3]) -> u8 {
 #[unsafe(no_mangle)]
 pub extern "C" fn call_to_matrix(mounting: u8, m: &mut [[f32; 3]; 3]) -> u8 {
     match alignment::to_matrix(mounting) {
-        MatrixRead::Read(matrix) => {
-            *m = matrix.to_rows();
+        Ok(matrix) => {
+            *m = matrix.into();
             0
         }
-        MatrixRead::Refused(number) => number,
+        Err(refusal) => refusal.number(),
     }
 }
 
-fn number_of(read: MountingRead) -> u8 {
+fn number_of(read: Result<u8, Refusal>) -> u8 {
     match read {
-        MountingRead::Number(mounting) => mounting,
-        MountingRead::Refused(number) => number,
+        Ok(mounting) => mounting,
+        Err(refusal) => refusal.number(),
     }
 }
 
@@ -73,7 +71,7 @@ pub extern "C" fn call_inverse(mounting: u8) -> u8 {
 
 #[unsafe(no_mangle)]
 pub extern "C" fn call_write_name(mounting: u8, name: &mut [u8]) -> u8 {
-    remap::write_name(mounting, name)
+    number_in(remap::write_name(mounting, name))
 }
 
 #[unsafe(no_mangle)]
@@ -83,7 +81,7 @@ pub extern "C" fn call_read_name(name: &[u8]) -> u8 {
 
 #[unsafe(no_mangle)]
 pub extern "C" fn call_turn_run(mounting: u8, source: &[f32], turned: &mut [f32]) -> u8 {
-    turning::turn_run(mounting, source, turned)
+    number_in(turning::turn_run(mounting, source, turned))
 }
 """
 # What each row has of the library's functions, and how many calls are counted.

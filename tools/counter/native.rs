@@ -133,7 +133,7 @@ mod port {
     use super::{Given, HEADER, and};
     use gateweave::ahrs::{Ahrs, Limit, Settings, update_lent};
     use gateweave::answer::Answer;
-    use gateweave::bias::{Bias, BiasSettings, Started};
+    use gateweave::bias::{Bias, BiasSettings};
     use gateweave::course::{Phase, begin};
     use gateweave::table::{self, Foot, Party, Side, Table};
     use gateweave::tally;
@@ -150,10 +150,8 @@ mod port {
     fn estimator(given: &Given) -> Bias {
         let fusion_ahrs::BiasSettings { sample_rate, stationary_threshold, stationary_period, cutoff_frequency } =
             given.estimator;
-        match Bias::with_settings(BiasSettings { sample_rate, stationary_threshold, stationary_period, cutoff_frequency }) {
-            Started::Fresh(estimator) => estimator,
-            Started::Refused(number) => panic!("the settings are refused: {number}"),
-        }
+        Bias::with_settings(BiasSettings { sample_rate, stationary_threshold, stationary_period, cutoff_frequency })
+            .expect("settings that are accepted")
     }
 
     pub fn update(given: &mut Given) -> u32 {
@@ -214,21 +212,21 @@ mod port {
     }
 
     pub fn choose_lent(given: &mut Given) -> u32 {
-        set(given, |foot, table, row, _| foot.first = table::choose_lent(table, foot.first, row).party)
+        set(given, |foot, table, row, _| foot.first = table::choose_lent(table, foot.first, row).state)
     }
 
     pub fn rewrite_lent(given: &mut Given) -> u32 {
         set(given, |foot, table, _, settings| {
-            foot.first = table::rewrite_lent(table, foot.first, foot.second.row, settings).party;
+            foot.first = table::rewrite_lent(table, foot.first, foot.second.row, settings).state;
         })
     }
 
     pub fn choose(given: &mut Given) -> u32 {
-        set(given, |foot, table, row, _| *foot = foot.choose(table, Side::First, row).foot)
+        set(given, |foot, table, row, _| *foot = foot.choose(table, Side::First, row).state)
     }
 
     pub fn rewrite(given: &mut Given) -> u32 {
-        set(given, |foot, table, _, settings| *foot = foot.rewrite(table, Side::First, settings).foot)
+        set(given, |foot, table, _, settings| *foot = foot.rewrite(table, Side::First, settings).state)
     }
 
     /// The whole log at once, of which nothing is left, so that the buffer is as it was.

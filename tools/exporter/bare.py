@@ -4,29 +4,27 @@ are cut to bare words and signs, which must be the same.
 
 usage: tools/exporter/bare.py REPOSITORY TOOLCHAIN CRATE
 
-From the Rattle go comments, ghost imports, attributes and clauses, and `std::num::` is `num::`. From the Rust go comments, the one derive and
-`crate::`, and `in crate::NAME` is `crate`. Of the toolchain's libraries each function is held to the one of its name.
+From the Rattle go comments, tactics, clauses, what is ghost and the word `final`; `std::num::` is `num::` and any other `std::` is `core::`;
+a type derives no Drop, and Debug last where it lacked; a field that all may see, beside an invariant, only the crate may; and of `fmt` the sink is no
+parameter. From the Rust go comments and `crate::`, and `in crate::NAME` is `crate`. Of the toolchain's libraries each function is held to the
+one of its name.
 """
 import pathlib
 import re
 import sys
 
-DERIVE = "#[derive(Clone, Copy, Debug)]"
-LIBRARIES = {"num": "core/src/num.rt", "io": "io/src/number.rt"}
+LIBRARIES = {"num": ("core/src/num.rt", "core/src/num/casts.rt"), "io": ("io/src/number.rt",)}
 
 
 def words(text):
-    return re.findall(r"""b"(?:\\.|\\\n|[^"\\])*"|b'(?:\\.|[^'])'|\w+(?:\.\d\w*)?|[^\s\w]""", text)
+    return re.findall(r"""b?"(?:\\.|\\\n|[^"\\])*"|b'(?:\\.|[^'])'|\w+(?:\.\d\w*)?|[^\s\w]""", text)
 
 
 def without_comments(text):
     return re.sub(r"//[^\n]*", "", text)
 
 
-def rattle(text):
-    """A Rattle text without what is the prover's."""
-    text = re.sub(r"(?m)^ghost use [^;]*;", "", without_comments(text)).replace("#[derive(Clone, Copy)]", "")
-    text = re.sub(r"(?m)^ *#!?\[tactic\(.*?\)\]$", "", text, flags=re.S)
+def without_clauses(text):
     kept, at = "", 0
     for clause in re.finditer(r"(?m)^\s*(?:requires|ensures)\b[^{\n]*\{", text):
         if clause.start() < at:
@@ -36,13 +34,46 @@ def rattle(text):
         while depth:
             depth += (text[at] == "{") - (text[at] == "}")
             at += 1
-    return (kept + text[at:]).replace("std::num::", "num::")
+    return kept + text[at:]
+
+
+def without_ghosts(text):
+    """A text without its ghost lines, of which the last ends in a comma or a semicolon outside braces."""
+    kept, inside, depth = [], False, 0
+    for line in text.split("\n"):
+        inside = inside or bool(re.match(r" *(?:pub(?:\(crate\))? )?ghost ", line))
+        if not inside:
+            kept.append(line)
+            continue
+        depth += line.count("{") - line.count("}")
+        inside = depth > 0 or not line.endswith((",", ";"))
+    return "\n".join(kept)
+
+
+def closed(struct):
+    """A type beside whose fields a fact stands: they are the crate's."""
+    return re.sub(r"(?m)^ +pub (?=\w+:)", "pub(crate) ", struct[0]) if re.search(r"\bghost\b", struct[0]) else struct[0]
+
+
+def derives(line):
+    names = re.findall(r"\b(?!derive|Drop)[A-Z]\w+", line[0])
+    return f"#[derive({', '.join(names if 'Debug' in names else [*names, 'Debug'])})]"
+
+
+def rattle(text):
+    """A Rattle text without what is the prover's."""
+    text = re.sub(r"(?m)^ *#!?\[tactic\(.*?\)\]$", "", without_comments(text), flags=re.S)
+    text = re.sub(r"(?ms)^(?:pub\S* )?struct \w+[^;{]*\{.*?^\}", closed, text)
+    text = without_clauses(without_ghosts(text))
+    text = re.sub(r"(?m)^ *#\[derive\(.*\)\]$", derives, text)
+    text = text.replace("fn fmt<W: fmt::Write>(&self, f: &mut fmt::Formatter<W>)", "fn fmt(&self, f: &mut fmt::Formatter<'_>)")
+    text = re.sub(r"\bfinal fn\b", "fn", text.replace("std::num::", "num::"))
+    return re.sub(r"\bstd::", "core::", text)
 
 
 def rust(text):
     """A Rust text without what the export adds."""
-    text = without_comments(text).replace(DERIVE, "")
-    return re.sub(r"\bcrate::", "", re.sub(r"\bin crate::\w+", "crate", text))
+    return re.sub(r"\bcrate::", "", re.sub(r"\bin crate::\w+", "crate", without_comments(text)))
 
 
 def functions(text):
@@ -70,7 +101,7 @@ def main(repository, toolchain, crate):
     for path in sorted(made):
         name, text = path.parts[0], rust((source / path).with_suffix(".rs").read_text("utf-8"))
         if name in LIBRARIES:
-            theirs = functions(rattle((toolchain / "rattle" / LIBRARIES[name]).read_text("utf-8")))
+            theirs = functions(rattle("".join((toolchain / "rattle" / file).read_text("utf-8") for file in LIBRARIES[name])))
             ours = functions(text)
             count += compared(path, words(text), sum(ours.values(), []))
             count += sum(compared(f"{name}::{f}", ours[f], theirs[f]) for f in ours) - len(words(text))

@@ -8,6 +8,10 @@ pub const STDERR_FILENO: i32 = 2;
 
 pub struct ExitCode;
 
+impl ExitCode {
+    pub const SUCCESS: ExitCode = ExitCode;
+}
+
 impl From<u8> for ExitCode {
     fn from(_: u8) -> ExitCode {
         ExitCode

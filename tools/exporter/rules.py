@@ -7,45 +7,78 @@ import pathlib
 import re
 import shutil
 
-# Crates that are no part of the Rust crate: one says on standard error what the lines of a run say, one has loops for the counter.
-APART = ("verdict", "cost")
+# Crates that are no part of the Rust crate: one says on standard error what the lines of a run say, one reads stored logs from standard
+# input, one has loops for the counter.
+APART = ("verdict", "stored", "cost")
 # The toolchain's libraries, of which the functions that are called go along; they ask something of their callers, so they stay private.
-KIT = {"num": "core/src/num.rt", "io": "io/src/number.rt"}
+KIT = {"num": ("core/src/num.rt", "core/src/num/casts.rt"), "io": ("io/src/number.rt",)}
 
-KEYWORDS = set("use pub mod crate super fn struct enum impl const let mut if else return match while loop break as self true false".split())
+KEYWORDS = set("""use pub mod crate super fn struct enum impl trait type const static let mut if else return match while loop for in break as
+    self Self true false""".split())
 TYPES = set("u8 u16 u32 u64 usize i8 i16 i32 i64 isize f32 f64 bool".split())
 # What a built-in type has under the same name and with the same meaning in both languages, off a NaN.
 ASSOCIATED = {f"{t}::{n}" for t in ("f32", "f64") for n in ("to_bits", "from_bits")}
 ASSOCIATED |= {f"{t}::{n}" for t in ("u8", "u16", "u32", "u64", "usize") for n in ("leading_zeros", "MAX")}
-# What is a method of such a type in both.
-METHODS = {"len", "copy_from_slice", "wrapping_add", "wrapping_sub"}
-# Names that Rust has in every file.
+ASSOCIATED |= {f"{t}::{n}" for t in ("i32", "i64") for n in ("MIN", "MAX")}
+# Bytes are a number by the order that the name says, from a narrower type nothing is lost, and what does not fit is an error.
+ASSOCIATED |= {f"{t}::from_le_bytes" for t in ("u16", "u32", "i32")}
+ASSOCIATED |= {f"{t}::from" for t in ("u16", "u32", "u64", "usize")} | {f"{t}::try_from" for t in ("u8", "u64")}
+# What is a method of a whole number in both: the sum or the difference modulo 2^n, or up to an end of the type; the distance; the smaller,
+# the larger, or what lies between two (of floats these would not be the same, and none is asked for them); its bytes and its first zeros.
+METHODS = {"wrapping_add", "wrapping_sub", "saturating_add", "saturating_sub", "abs_diff", "min", "max", "clamp", "to_le_bytes",
+           "leading_zeros"}
+# Of a slice or an array: its length, an element or none, all elements, one after another and with their places, whether it begins with another,
+# what is copied into it or within it.
+METHODS |= {"len", "get", "as_slice", "iter", "enumerate", "starts_with", "copy_from_slice", "copy_within"}
+# Of a float its bits, off a NaN. Of a range: each so many. Of an option or a result: which of the two it is, what it holds or else a value,
+# what it points to. `unwrap` is proved to find what it asks for.
+METHODS |= {"to_bits", "step_by", "is_ok", "is_err", "unwrap", "unwrap_or", "copied"}
+# Macros of both: whether a pattern fits, a value written as text, and where no call comes, which is proved.
+MACROS = {"matches", "write", "unreachable"}
+# Where a text may stand.
+WRITTEN = re.compile(r"\bwrite!\(f, $|\bprintln!\(rt;\s+$")
+# Traits that are derived, field by field in both; the export adds Debug where it lacks.
+DERIVED = {"Clone", "Copy", "Debug", "PartialEq", "Eq"}
+# Of std, what is core's in Rust, by the same names.
+CORE = {"std::fmt", "std::error::Error", "std::array::from_fn", "std::ops::ControlFlow"}
+# Names that Rust has in every file; those that mean the same in both languages, where no text declares them anew.
 PRELUDE = set("""Some None Ok Err Option Result Box String Vec ToString ToOwned drop Drop Fn FnMut FnOnce AsRef AsMut Clone Copy Iterator
     IntoIterator Extend DoubleEndedIterator ExactSizeIterator From Into TryFrom TryInto FromIterator Default Send Sync Sized Unpin PartialEq
     Eq PartialOrd Ord""".split())
+SHARED = {"Some", "None", "Ok", "Err", "Option", "Result", "Copy", "From", "TryFrom"}
 # Words of Rust or of Rattle for which these crates have no use: a text that has one is not understood.
-RESERVED = set("""abstract async await become box continue do dyn ensures extern final for gen ghost in macro macro_rules move override priv
-    proof ref requires Self static trait try type typeof union unsafe unsized virtual where yield""".split())
+RESERVED = set("""abstract async await become box continue do dyn ensures extern final gen ghost macro macro_rules move override priv proof ref
+    requires try typeof union unsafe unsized virtual where yield""".split())
+DECLARES = {"struct", "enum", "trait", "type", "fn", "const", "static", "mod", "as"}
 # Signs that are one to Rust; the first are known here too.
 KNOWN = ("::", "->", "=>", "..", "==", "!=", "<=", ">=", "<<", ">>", "+=", "-=", "/=")
 JOINED = {"&&", "||", "/*", "//", "*=", "%=", "^=", "&=", "|=", "..=", "...", "<<=", ">>=", "<-"}
 # What the programs have beside that, which are written only to be run on their stored inputs.
-PROGRAMS = {"type", "for", "in", "&&", "||", "..=", "?", "Ok", "Err", "Result"}
+PROGRAMS = {"&&", "||", "..=", "println", "Fn", "FnOnce"}
 # Their methods of built-in types and of what they have of the system, and the parts of std that this is.
-SYSTEM = {"min", "stdin", "read", "write_all", "arg"}
+SYSTEM = {"stdin", "reader", "read", "read_exact", "write_all", "arg", "is_ascii_digit", "trim_ascii_end", "is_empty", "split_at", "chunks",
+          "as_chunks", "map", "map_err", "fold", "is_break"}
 STD = {"io", "env", "process"}
 
 TOKEN = re.compile(r"""(?P<space>\n|[ ]+)|(?P<comment>//[^\n]*)
+    |(?P<lifetime>'(?:static|a|_))(?![\w'])|(?P<text>"(?:[\x20\x21\x23-\x5b\x5d-\x7a|~]|\{(?:[a-z_0-9]*|:08x)\})*")
     |(?P<bytes>b"(?:\\[\\"n\n]|\\x[0-9a-fA-F]{2}|[\x20\x21\x23-\x5b\x5d-\x7e])*"|b'(?:\\[n'\\]|[\x20-\x26\x28-\x5b\x5d-\x7e])')
     |(?P<number>0x[0-9a-fA-F_]+(?:u8|u16|u32|u64)?|0b[01_]+|[0-9][0-9_]*(?:\.[0-9][0-9_]*)?(?:u8|u16|u32|u64|usize|i32|i64|f32|f64)?)(?![A-Za-z0-9_])
     |(?P<word>[A-Za-z_][A-Za-z0-9_]*)|(?P<sign>""" + "|".join(map(re.escape, KNOWN)) + r"""|[(){}\[\],;:=<>+\-*/%&|^!.?])""", re.X)
 CLAUSE = re.compile(r"[ ]+(?:requires|ensures)(?: [a-z_]+)? \{")
-GHOST = re.compile(r"ghost use [^;]*;\n")
-# What a crate or a function asks of the prover, and that a type is copied, which each is here.
-ATTRIBUTE = re.compile(r"[ ]*#(?:!?\[tactic\([^\]]*\)|\[derive\(Clone, Copy\))\]\n")
-ITEM = re.compile(r" *(pub(?:\(.*?\))? )?(?:const (?=fn ))?(fn|struct|enum|const) ")
+# An import of the prover's, a fact that holds of every value of a type, or what a trait or an impl says by terms.
+GHOST = re.compile(r"[ ]*(?:pub(?:\(crate\))? )?ghost (use |[a-z_]+(?::| =) \{)")
+# What a crate or a function asks of the prover.
+TACTIC = re.compile(r"[ ]*#!?\[tactic\([^\]]*\)\]\n")
+DERIVE = re.compile(r"( *)#\[derive\(([A-Za-z, ]*)\)\]\n")
+# How a value is written as text: Rattle has the sink as a parameter, and Rust's Formatter hides it.
+FMT = "fn fmt<W: fmt::Write>(&self, f: &mut fmt::Formatter<W>) -> fmt::Result"
+RUST_FMT = "fn fmt(&self, f: &mut fmt::Formatter<'_>) -> fmt::Result"
+ITEM = re.compile(r" *(pub(?:\(.*?\))? )?(?:const (?=fn ))?(fn|struct|enum|trait|const|static) ")
+# What may have ghost items of its own.
+OWNER = re.compile(r"(pub(?:\(.*?\))? )?(struct|trait|impl)\b.* \{$")
 FUNCTION = re.compile(r"(?:pub(?:\(crate\))? )?(?:const )?fn ([a-z_0-9]+)")
-METHOD = re.compile(r"(?m)^    (?:pub(?:\(crate\))? )?fn ([a-z_0-9]+)\(\s*(?:mut )?self\b")
+METHOD = re.compile(r"(?m)^    (?:pub(?:\(crate\))? )?(?:final )?fn ([a-z_0-9]+)(?:<[^(]*>)?\(\s*(?:&(?:mut )?)?(?:mut )?self\b")
 
 LIB = """//! The proved core of Gateweave, an attitude filter, as Rust: a module for each of its crates. The text is the proved text; what
 //! rustc makes of it is not proved. What each function promises stands in its comment, in the words of the proofs.
@@ -82,17 +115,51 @@ def clause_end(text, at):
     raise Unknown("a clause without its end")
 
 
+def ghost_end(text, at):
+    """Where a ghost item that begins at `at` ends, behind its comma or semicolon and the end of that line."""
+    depth = 0
+    for i in range(at, len(text) - 1):
+        depth += {"{": 1, "}": -1}.get(text[i], 0)
+        if depth == 0 and text[i] in ",;" and text[i + 1] == "\n":
+            return i + 2
+    raise Unknown("a ghost item without its end")
+
+
+def derived(pad, names):
+    """What a type derives, and Debug; that it is dropped Rust knows by itself."""
+    names = [name for name in names.split(", ") if name != "Drop"]
+    if odd := set(names) - DERIVED:
+        raise Unknown(f"a derive of {sorted(odd)[0]}")
+    return f"{pad}#[derive({', '.join(names + ['Debug'] * ('Debug' not in names))})]\n"
+
+
+def special(text, at):
+    """A token that begins a line and is not as it stands, or none: its kind, what it is, and its end."""
+    if tactic := TACTIC.match(text, at):
+        return "", "", tactic.end()
+    if ghost := GHOST.match(text, at):
+        end = ghost_end(text, at)
+        # The line that is left empty behind a member goes with it.
+        return ("" if ghost[1] == "use " else "ghost"), text[at:end], end + (text[end:end + 1] == "\n" and ghost[1] != "use ")
+    if derive := DERIVE.match(text, at):
+        return "derive", derived(*derive.groups()), derive.end()
+    if clause := CLAUSE.match(text, at):
+        end = clause_end(text, clause.end() - 1)
+        return "clause", text[at:end], end
+    return None
+
+
 def scan(text):
-    """The tokens of a text, as pairs of a kind and what stands there. A clause is one token, and a ghost import or an attribute none."""
+    """The tokens of a text, as pairs of a kind and what stands there. A clause or a ghost item is one token, and a ghost import or a tactic
+    none."""
     at, found = 0, []
     while at < len(text):
-        starts = at == 0 or text[at - 1] == "\n"
-        if starts and (ghost := GHOST.match(text, at) or ATTRIBUTE.match(text, at)):
-            at = ghost.end()
-        elif starts and (clause := CLAUSE.match(text, at)):
-            end = clause_end(text, clause.end() - 1)
-            found.append(("clause", text[at:end]))
-            at = end
+        if (at == 0 or text[at - 1] == "\n") and (begun := special(text, at)):
+            kind, what, at = begun
+            found += [(kind, what)] * (kind != "")
+        elif text.startswith(FMT, at):
+            found.append(("fmt", RUST_FMT))
+            at += len(FMT)
         elif token := TOKEN.match(text, at):
             found.append((token.lastgroup, token.group()))
             at = token.end()
@@ -109,18 +176,37 @@ def solid(tokens, i, step):
     return tokens[i][1] if 0 <= i < len(tokens) else ""
 
 
+def path_at(tokens, i):
+    """The path that begins at a word."""
+    parts = itertools.takewhile(lambda token: token[0] == "word" or token[1] == "::", tokens[i:])
+    return "".join(t for _, t in parts)
+
+
 def judge_word(tokens, i, methods, allowed):
     word, before, after = tokens[i][1], solid(tokens, i, -1), solid(tokens, i, 1)
-    if word in (RESERVED | PRELUDE) - allowed:
+    # A method that no impl may replace is one of its trait's here; that nobody outside replaces it is for the caller.
+    if word in (RESERVED | PRELUDE) - SHARED - allowed and not (word == "final" and after == "fn"):
         raise Unknown(f"the word {word}")
-    if after == "!" and word not in KEYWORDS:
+    if word in SHARED and before in DECLARES:
+        raise Unknown(f"{word} declared anew")
+    if after == "!" and word not in KEYWORDS | MACROS | allowed:
         raise Unknown(f"a macro {word}!")
     if before == "." and after == "(" and word not in METHODS and word not in methods:
         raise Unknown(f"a method {word} that no type here has")
     if word in TYPES and after == "::":
-        name = word + "".join(t for _, t in tokens[i + 1:i + 3])
-        if name not in ASSOCIATED:
+        if (name := path_at(tokens, i)) not in ASSOCIATED:
             raise Unknown(name)
+    if word == "fmt" and after == "::" and path_at(tokens, i) != "fmt::Display":
+        raise Unknown(path_at(tokens, i))
+
+
+def is_range(tokens, i, opened):
+    """Whether the two points at a token are a range outside an index: no rest of a value or of a pattern, not what a `for` goes over, and not
+    what is copied within a slice."""
+    if opened[-1:] == ["["] or solid(tokens, i, -1) in (",", "{"):
+        return False
+    here = (t for _, t in reversed(tokens[:i]) if t in ("in", "copy_within", "{", "}", ";"))
+    return next(here, "") not in ("in", "copy_within")
 
 
 def sign(tokens, i):
@@ -135,35 +221,51 @@ def judge(tokens, methods, allowed):
     for i, (kind, t) in enumerate(tokens):
         if kind == "word":
             judge_word(tokens, i, methods, allowed)
+        if kind == "word" and t == "type" and not opened and not allowed:
+            raise Unknown("a type of another name")
+        if kind == "text" and not WRITTEN.search("".join(t for _, t in tokens[max(i - 10, 0):i])) and ("{" in t or not allowed):
+            raise Unknown("a text that is not written")
+        if kind == "lifetime" and not allowed:
+            raise Unknown("a lifetime")
         if kind != "sign":
             continue
         if (joined := sign(tokens, i)) and joined not in allowed:
             raise Unknown(f"a sign {joined}")
-        if t == "|" and solid(tokens, i, -1) in ("(", ",", "=", "{", "return", ";", "=>"):
-            raise Unknown("a closure, or a pattern that begins with a bar")
-        if t == ".." and opened[-1:] != ["["] and not allowed:
+        if t == "|" and (solid(tokens, i, -1) in ("=", "{", "return", ";", "=>") or "".join(t for _, t in tokens[i - 2:i]) in (" (", "((", "=(")):
+            raise Unknown("a closure that is no argument, or a pattern that begins with a bar")
+        if t == ".." and is_range(tokens, i, opened) and not allowed:
             raise Unknown("a range outside an index")
-        if t == "?" and t not in allowed:
-            raise Unknown("a question mark")
         if t in "([{":
             opened.append(t)
         if t in ")]}":
             opened.pop()
 
 
+def of_std(path, name):
+    """Where that of std which a path names stands here."""
+    if path in CORE:
+        return "core"
+    part = path.split("::")[1]
+    if part != "num" and (name or part not in STD):
+        raise Unknown(f"a part of std other than num: {path}")
+    return "crate" if part == "num" else "crate::system"
+
+
 def renamed(tokens, name, paths):
-    """The tokens as Rust: where a path begins at another crate, and what a crate is here. Each clause is a line `\\0` by itself."""
+    """The tokens as Rust: where a path begins at another crate, and what a crate is here. Each clause is a line `\\0` by itself, and each
+    ghost item a line `\\1`."""
     out, clauses = [], []
     for i, (kind, t) in enumerate(tokens):
         before, after = solid(tokens, i, -1), solid(tokens, i, 1)
-        if kind == "clause":
+        if kind in ("clause", "ghost"):
             clauses.append(t)
-            t = "\0"
+            t = "\0" if kind == "clause" else "\1\n"
+        elif kind == "word" and t == "final":
+            t = ""
+        elif kind == "space" and t == " " and tokens[i - 1][1] == "final":
+            t = ""
         elif kind == "word" and t == "std" and after == "::":
-            part = tokens[i + 2][1]
-            if part != "num" and (name or part not in STD):
-                raise Unknown("a part of std other than num")
-            t = "crate" if part == "num" else "crate::system"
+            t = of_std(path_at(tokens, i), name)
         elif kind == "word" and t == "crate":
             if before != "(":
                 raise Unknown("crate outside pub(crate)")
@@ -186,39 +288,89 @@ def comment(out, pad):
 
 def contract(pad, clauses, commented):
     """The clauses of a contract as lines of a doc comment, behind another or by themselves."""
-    parts = [part.strip() for clause in clauses for part in clause.split("\n")]
+    parts = [part.strip() for clause in clauses for part in clause.rstrip("\n").split("\n")]
     return [pad + "///"] * commented + [f"{pad}/// {part}" for part in ("```text", *parts, "```")]
 
 
-def documented(text, clauses, asks):
-    """The lines with each comment above an item as its doc comment, and behind it the clauses of its contract; types are copied. Of the
-    public functions those that are named may ask something of their callers."""
-    out, clauses = [], iter(clauses)
-    # Of a function whose body has not begun: where its signature stands, whether it may ask nothing, and its clauses.
-    item, plain, own = None, False, []
-    for line in text.split("\n"):
-        pad = " " * (len(line) - len(line.lstrip()))
+class Written:
+    """The lines of a file as they come, each comment above an item as its doc comment, and behind it what the prover is told of it: the
+    clauses of a function, the ghost items of a type, a trait or an impl. Of the public functions those that are named may ask something of
+    their callers."""
+
+    def __init__(self, clauses, asks):
+        self.out, self.clauses, self.asks = [], iter(clauses), asks
+        # Of a function whose body has not begun: where its signature stands, whether it may ask nothing, and its clauses.
+        self.item, self.plain, self.own = None, False, []
+        # Of what is open at the margin and may have ghost items: where it begins, its first line, and its items.
+        self.owner, self.first, self.ghosts = None, "", []
+
+    def tell(self, at, pad, clauses):
+        """Puts what the prover is told into the comment above a line."""
+        self.out[at:at] = contract(pad, clauses, at > 0 and self.out[at - 1].startswith(pad + "///"))
+
+    def begins(self, line, pad):
+        if line.startswith(pad + "#[derive("):
+            comment(self.out, pad)
         if match := ITEM.match(line):
-            comment(out, pad)
+            comment(self.out, pad)
             name = re.match(r"\w+", line[match.end():])[0]
-            item, plain, own = len(out) if match[2] == "fn" else None, match[1] == "pub " and name not in asks, []
-            out += [pad + "#[derive(Clone, Copy, Debug)]"] * (match[2] in ("struct", "enum"))
-        if line == "\0":
-            if item is None:
+            offered = match[1] == "pub " or pad and (self.first.startswith("pub trait") or re.match(r"impl\b.* for ", self.first))
+            self.item, self.plain, self.own = len(self.out) if match[2] == "fn" else None, offered and name not in self.asks, []
+        if match := OWNER.match(line):
+            derives = bool(self.out) and self.out[-1].startswith("#[derive(")
+            self.owner, self.first, self.ghosts = len(self.out) - derives, line, []
+
+    def ends_signature(self, pad, end):
+        if self.plain and any(clause.lstrip().startswith("requires") for clause in self.own):
+            raise Unknown("a public function that asks something of its caller")
+        self.out[-1] += end
+        self.tell(self.item, pad, self.own)
+        self.item, self.own = None, []
+
+    def ends_owner(self):
+        if self.ghosts and re.search(r"\bstruct ", self.first):
+            # What holds of every value is for no caller to break, so none outside may make one by its fields.
+            for i in range(self.owner, len(self.out)):
+                self.out[i] = re.sub(r"^    pub (?=[a-z_])", "    pub(crate) ", self.out[i])
+        if self.ghosts:
+            self.tell(self.owner, "", self.ghosts)
+        self.owner, self.first, self.ghosts = None, "", []
+
+    def ghost(self, text):
+        if self.owner is None or not re.match("    (?! )", text):
+            raise Unknown("a ghost item outside a struct, a trait or an impl")
+        if re.match(r" *ghost can_", text):
+            raise Unknown("an operator that asks something of its caller")
+        self.ghosts.append(text)
+
+    def line(self, line):
+        pad = " " * (len(line) - len(line.lstrip()))
+        self.begins(line, pad)
+        if line == "\1":
+            self.ghost(next(self.clauses))
+        elif line in ("\0", "\0;"):
+            if self.item is None:
                 raise Unknown("a clause outside a signature")
-            own.append(next(clauses))
-        elif line == pad + "{" and own:
-            if plain and any(clause.lstrip().startswith("requires") for clause in own):
-                raise Unknown("a public function that asks something of its caller")
-            out[-1] += " {"
-            out[item:item] = contract(pad, own, item > 0 and out[item - 1].startswith(pad + "///"))
-            item, own = None, []
+            self.own.append(next(self.clauses))
+            if line == "\0;":
+                self.ends_signature("    ", ";")
+        elif line == pad + "{" and self.own:
+            self.ends_signature(pad, " {")
         else:
-            out.append(line)
-            item = None if line.endswith("{") else item
-    if own or next(clauses, None):
+            self.out.append(line)
+            self.item = None if line.endswith(("{", ";")) else self.item
+            if line == "}" and self.owner is not None:
+                self.ends_owner()
+
+
+def documented(text, clauses, asks):
+    """The lines of a file with its comments where Rust's tools look for them."""
+    written = Written(clauses, asks)
+    for line in text.split("\n"):
+        written.line(line)
+    if written.own or next(written.clauses, None):
         raise Unknown("a signature without a body")
-    return "\n".join(out)
+    return "\n".join(written.out)
 
 
 def headed(text):
@@ -263,7 +415,7 @@ def called(text, names):
 
 def library(kit, name, wanted):
     """The functions of a library that are wanted, and those that they call, in the library's order."""
-    known = functions((kit / "rattle" / KIT[name]).read_text("utf-8"))
+    known = functions("".join((kit / "rattle" / file).read_text("utf-8") for file in KIT[name]))
     if missing := wanted - known.keys():
         raise Unknown(f"{name} has no function {sorted(missing)[0]}")
     found, new = set(), set(wanted)

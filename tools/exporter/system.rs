@@ -12,10 +12,26 @@ impl HostRuntime {
         Stdin
     }
 
+    pub fn reader(&self) -> Stdin {
+        Stdin
+    }
+
+    pub fn say(&self, what: core::fmt::Arguments<'_>) -> io::Result<()> {
+        if kit::io::put(STDOUT_FILENO, what) { Ok(()) } else { Err(io::Error) }
+    }
+
     pub fn write_all(&self, buf: &[u8]) -> io::Result<()> {
         if kit::io::write_all(STDOUT_FILENO, buf) { Ok(()) } else { Err(io::Error) }
     }
 }
+
+/// A line on standard output; of Rattle's `println` the runtime is the first argument.
+macro_rules! print_line {
+    ($rt:expr; $($said:tt)*) => {
+        $rt.say(format_args!("{}\n", format_args!($($said)*)))
+    };
+}
+pub(crate) use print_line;
 
 impl env::Env for HostRuntime {
     fn arg(&self, _: usize, _: &mut [u8]) -> Result<usize, env::FillError> {
@@ -48,6 +64,18 @@ pub mod io {
 
     pub trait Read {
         fn read(&mut self, buf: &mut [u8]) -> Result<usize>;
+
+        fn read_exact(&mut self, buf: &mut [u8]) -> Result<()> {
+            let mut n = 0;
+            while n < buf.len() {
+                let got = self.read(&mut buf[n..])?;
+                if got == 0 {
+                    return Err(Error);
+                }
+                n += got;
+            }
+            Ok(())
+        }
     }
 }
 
@@ -111,12 +139,16 @@ pub mod kit {
             n
         }
 
+        pub fn put(fd: i32, what: core::fmt::Arguments<'_>) -> bool {
+            Out(fd).write_fmt(what).is_ok()
+        }
+
         pub fn print_decimal(fd: i32, n: u64) -> bool {
-            write!(Out(fd), "{n}").is_ok()
+            put(fd, format_args!("{n}"))
         }
 
         pub fn print_hex(fd: i32, n: u64, width: usize) -> bool {
-            write!(Out(fd), "{n:0width$x}").is_ok()
+            put(fd, format_args!("{n:0width$x}"))
         }
     }
 }

@@ -2,10 +2,10 @@
 
 use crate::foot;
 use crate::machine::{Answer, gives, refused};
-use crate::port::{choice, numbered, of_settings, said, settings, vector};
+use crate::port::{choice, done, of_settings, said, settings, told, vector};
 use gateweave::ahrs::{Ahrs, Limit, Settings};
-use gateweave::table::foot::Stood;
-use gateweave::table::{Foot, Party, Side, Started, Table, choose_owned, rewrite_owned};
+use gateweave::answer::Change;
+use gateweave::table::{Foot, Party, Side, Table, choose_owned, rewrite_owned};
 
 /// Settings that a filter starts with.
 const PLAIN: Settings = Settings {
@@ -32,7 +32,7 @@ impl Default for Port {
         let zeros = Settings { acceleration_rejection: Limit::Squared(0.0), magnetic_rejection: Limit::Squared(0.0), ..PLAIN };
         let zeros = Settings { sample_rate: 0.0, gain: 0.0, ..zeros };
         // Who has not started uses no row, and nothing asks its filter.
-        let Started::Fresh(party) = Party::first(PLAIN) else { panic!("a start is refused") };
+        let party = Party::first(PLAIN).expect("settings that are accepted");
         let absent = Party { row: 255, ..party };
         Port { table: Table { rows: [zeros; 8] }, foot: Foot { first: absent, second: absent }, started: [false; 2], calls: 0 }
     }
@@ -68,14 +68,11 @@ impl Port {
             Side::First => Party::first(settings),
             Side::Second => Party::second(settings),
         };
-        match started {
-            Started::Fresh(party) => {
-                *self.party(side) = party;
-                self.started[side as usize] = true;
-                gives([])
-            }
-            Started::Refused(number) => numbered(number),
-        }
+        told(started, |party| {
+            *self.party(side) = party;
+            self.started[side as usize] = true;
+            []
+        })
     }
 
     fn is_owned(&mut self) -> bool {
@@ -103,9 +100,9 @@ impl Port {
         self.stood(stood)
     }
 
-    fn stood(&mut self, stood: Stood) -> Answer {
-        self.foot = stood.foot;
-        numbered(stood.number)
+    fn stood(&mut self, stood: Change<Foot>) -> Answer {
+        self.foot = stood.state;
+        done(stood.result)
     }
 
     fn update(&mut self, side: Side, a: &[u32]) -> Answer {

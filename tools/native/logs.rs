@@ -53,10 +53,10 @@ fn replayed(random: &mut Random, bytes: &[u8], parts: &mut u64) -> (Phase, Vec<u
     let (mut phase, mut printed, mut out) = (Phase::Header, Vec::new(), vec![0; 2 * ROOM]);
     let left = in_parts(random, bytes, parts, |buffer, n| {
         let fed = playback::feed(phase, buffer, n, &mut out);
-        assert!(fed.refusal == 0, "a part is refused with {}", fed.refusal);
+        assert!(fed.result.is_ok(), "a part is refused: {:?}", fed.result);
         printed.extend_from_slice(&out[..fed.n]);
         phase = fed.phase;
-        (fed.left, matches!(phase, Phase::Ended(..)))
+        (fed.left, matches!(phase, Phase::Ended { .. }))
     });
     let last = playback::last(phase, left, &mut out);
     printed.extend_from_slice(&out[..last.n]);

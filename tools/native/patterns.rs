@@ -7,8 +7,8 @@ use crate::filter::RIGHT_ANGLE;
 use crate::rust;
 use crate::sines::{is_near, refusal};
 use crate::words::bits;
-use gateweave::trig::{self, Number};
-use gateweave::{number, root, text, wire};
+use gateweave::answer::Refusal;
+use gateweave::{number, root, text, trig, wire};
 
 /// The functions that are tried, in the order of their words.
 pub const TRIED: &str =
@@ -48,17 +48,17 @@ fn ours(n: u32) -> [u32; 10] {
 }
 
 /// Whether an answer to call 47 or 48 is the refusal of an angle, or as near to its reference as it has to be.
-fn is_right(code: u32, x: f32, answer: &Number) -> bool {
+fn is_right(code: u32, x: f32, answer: Result<f32, Refusal>) -> bool {
     match answer {
-        Number::Value(y) => refusal(x) == 0 && is_near(code, x, *y),
-        Number::Refused(n) => *n != 0 && refusal(x) == u32::from(*n),
+        Ok(y) => refusal(x) == 0 && is_near(code, x, y),
+        Err(refused) => refusal(x) == u32::from(refused.number()),
     }
 }
 
 /// Sine and cosine of a pattern, and the limit where it is an angle of rejection.
 fn degrees(n: u32) {
     let (x, pattern) = (f32::from_bits(n), || format!("the pattern {n:08X}"));
-    if !is_right(0x47, x, &trig::sin_degrees(x)) || !is_right(0x48, x, &trig::cos_degrees(x)) {
+    if !is_right(0x47, x, trig::sin_degrees(x)) || !is_right(0x48, x, trig::cos_degrees(x)) {
         let [theirs, ours] = [[libm::sinf(x), libm::cosf(x)], [trig::sin(x), trig::cos(x)]].map(|both| both.map(bits));
         differs("sine or cosine, its refusal, or its reference", &pattern(), &theirs, &ours);
     }

@@ -6,14 +6,12 @@ use crate::offset_port;
 use crate::plain_port::{arithmetic, mountings};
 use crate::record::{QUIET, Record};
 use crate::words::{bits, f};
-use gateweave::ahrs::read::{Flags, FlagsRead, IgnoredRead, QuaternionRead, SettingsRead, StatesRead, VectorRead};
+use gateweave::ahrs::read::{Flags, InternalStates};
 use gateweave::ahrs::{self, Ahrs, Axes, Limit, Settings};
-use gateweave::answer::Answer as Said;
-use gateweave::bias::reads::{ActiveRead, OffsetRead, SettingsRead as BiasSettingsRead};
+use gateweave::answer::{Answer as Said, Reading, Refusal};
 use gateweave::bias::{self, Bias, BiasSettings};
-use gateweave::heading;
 use gateweave::math::{Quaternion, Vector};
-use gateweave::trig::{self, Number};
+use gateweave::{heading, trig};
 
 #[derive(Default)]
 pub struct Port {
@@ -33,11 +31,11 @@ pub fn quaternion(a: &[u32]) -> Quaternion {
 }
 
 pub fn of_vector(v: Vector) -> [u32; 3] {
-    v.to_array().map(bits)
+    <[f32; 3]>::from(v).map(bits)
 }
 
 pub fn of_quaternion(q: Quaternion) -> [u32; 4] {
-    q.to_array().map(bits)
+    <[f32; 4]>::from(q).map(bits)
 }
 
 /// A number that no byte holds is refused like 255.
@@ -45,22 +43,32 @@ pub fn choice(word: u32) -> u8 {
     word.min(255) as u8
 }
 
-pub fn numbered(number: u8) -> Answer {
-    Answer { number: number.into(), words: Vec::new() }
+fn numbered(refusal: Refusal) -> Answer {
+    refused(refusal.number().into())
 }
 
-fn number(n: Number) -> Answer {
-    match n {
-        Number::Value(x) => gives([bits(x)]),
-        Number::Refused(n) => numbered(n),
+/// The words of what is given, or the refusal's number.
+pub fn told<T, W: Into<Vec<u32>>>(result: Result<T, Refusal>, words: impl FnOnce(T) -> W) -> Answer {
+    match result {
+        Ok(given) => gives(words(given)),
+        Err(refusal) => numbered(refusal),
     }
+}
+
+/// A call that gives nothing.
+pub fn done(result: Result<(), Refusal>) -> Answer {
+    told(result, |()| [])
+}
+
+fn number(result: Result<f32, Refusal>) -> Answer {
+    told(result, |x| [bits(x)])
 }
 
 pub fn said(answer: Said) -> Answer {
     match answer {
         Said::Rates(x, y, z) | Said::Turned(x, y, z) => gives([x, y, z].map(bits)),
         Said::Oriented(w, x, y, z) => gives([w, x, y, z].map(bits)),
-        Said::Refused(n) => numbered(n),
+        Said::Refused(refusal) => numbered(refusal),
     }
 }
 
@@ -173,7 +181,7 @@ impl Port {
         let [acceleration_rejection, magnetic_rejection] = [0, 1].map(|i| limit(words[i], in_degrees[i]));
         let change = state.set_settings(Settings { acceleration_rejection, magnetic_rejection, ..state.settings });
         self.ahrs = Some(change.state);
-        numbered(change.number)
+        done(change.result)
     }
 
     fn is_lent(&mut self) -> bool {
@@ -183,13 +191,10 @@ impl Port {
 
     fn ahrs(&mut self, code: u32, a: &[u32]) -> Answer {
         if matches!(code, 0x80 | 0x90) {
-            return match Ahrs::with_settings(settings(code, a)) {
-                ahrs::Started::Fresh(fresh) => {
-                    self.ahrs = Some(fresh);
-                    numbered(0)
-                }
-                ahrs::Started::Refused(n) => numbered(n),
-            };
+            return told(Ahrs::with_settings(settings(code, a)), |fresh| {
+                self.ahrs = Some(fresh);
+                []
+            });
         }
         let state = self.ahrs.expect("the script starts no filter");
         let change = match code {
@@ -205,10 +210,10 @@ impl Port {
             _ => return read(state, code),
         };
         self.ahrs = Some(change.state);
-        numbered(change.number)
+        done(change.result)
     }
 
-    fn kept(&mut self, reading: ahrs::Reading) -> Answer {
+    fn kept(&mut self, reading: Reading<Ahrs>) -> Answer {
         self.ahrs = Some(reading.state);
         said(reading.answer)
     }
@@ -228,13 +233,10 @@ impl Port {
 
     fn bias(&mut self, code: u32, a: &[u32]) -> Answer {
         if code == 0x60 {
-            return match Bias::with_settings(bias_settings(a)) {
-                bias::Started::Fresh(fresh) => {
-                    self.bias = Some(fresh);
-                    numbered(0)
-                }
-                bias::Started::Refused(n) => numbered(n),
-            };
+            return told(Bias::with_settings(bias_settings(a)), |fresh| {
+                self.bias = Some(fresh);
+                []
+            });
         }
         let state = self.bias.expect("the script starts no estimator");
         let change = match code {
@@ -246,7 +248,7 @@ impl Port {
             _ => return read_bias(state, code, a),
         };
         self.bias = Some(change.state);
-        numbered(change.number)
+        done(change.result)
     }
 
     fn reading(&mut self, mut state: Bias, gyroscope: Vector) -> Answer {
@@ -264,40 +266,21 @@ impl Port {
 
 /// What a call that only reads the filter says.
 pub fn read(state: Ahrs, code: u32) -> Answer {
-    let vector = |read| match read {
-        VectorRead::Read(v) => gives(of_vector(v)),
-        VectorRead::Refused(n) => numbered(n),
-    };
-    let states = |words: fn(ahrs::read::InternalStates) -> [u32; 2]| match state.internal_states() {
-        StatesRead::Read(s) => gives(words(s)),
-        StatesRead::Refused(n) => numbered(n),
-    };
-    let flags = |words: fn(Flags) -> Vec<u32>| match state.flags() {
-        FlagsRead::Read(s) => gives(words(s)),
-        FlagsRead::Refused(n) => numbered(n),
-    };
+    let states = |words: fn(InternalStates) -> [u32; 2]| told(state.internal_states(), words);
+    let flags = |words: fn(Flags) -> Vec<u32>| told(state.flags(), words);
     match code {
-        0x87 => match state.quaternion() {
-            QuaternionRead::Read(q) => gives(of_quaternion(q)),
-            QuaternionRead::Refused(n) => numbered(n),
-        },
-        0x88 => vector(state.gravity()),
-        0x89 => vector(state.linear_acceleration()),
-        0x8A => vector(state.earth_acceleration()),
+        0x87 => told(state.quaternion(), of_quaternion),
+        0x88 => told(state.gravity(), of_vector),
+        0x89 => told(state.linear_acceleration(), of_vector),
+        0x8A => told(state.earth_acceleration(), of_vector),
         0x8B => flags(|s| {
             [s.startup, s.overrange_recovery.any(), s.acceleration_recovery, s.magnetic_recovery].map(u32::from).to_vec()
         }),
         0x8C => states(|s| [s.acceleration_recovery_trigger, s.magnetic_recovery_trigger].map(bits)),
         0x8D => states(|s| [s.accelerometer_ignored, s.magnetometer_ignored].map(u32::from)),
-        0x8E => match state.settings() {
-            SettingsRead::Read(s) => gives(of_settings(&s)),
-            SettingsRead::Refused(n) => numbered(n),
-        },
+        0x8E => told(state.settings(), |s| of_settings(&s)),
         0x8F => flags(|s| vec![of_axes(s.overrange_recovery)]),
-        0x92 => match state.ignored_counts() {
-            IgnoredRead::Read(s) => gives([s.accelerometer, s.magnetometer]),
-            IgnoredRead::Refused(n) => numbered(n),
-        },
+        0x92 => told(state.ignored_counts(), |s| [s.accelerometer, s.magnetometer]),
         _ => refused(1),
     }
 }
@@ -305,20 +288,11 @@ pub fn read(state: Ahrs, code: u32) -> Answer {
 /// The same of the estimator.
 pub fn read_bias(state: Bias, code: u32, a: &[u32]) -> Answer {
     match code {
-        0x63 => match state.offset() {
-            OffsetRead::Read(v) => gives(of_vector(v)),
-            OffsetRead::Refused(n) => numbered(n),
-        },
-        0x66 => match state.is_active() {
-            ActiveRead::Read(active) => gives([active as u32]),
-            ActiveRead::Refused(n) => numbered(n),
-        },
-        0x67 => match state.settings() {
-            BiasSettingsRead::Read(s) => {
-                gives([s.sample_rate, s.stationary_threshold, s.stationary_period, s.cutoff_frequency].map(bits))
-            }
-            BiasSettingsRead::Refused(n) => numbered(n),
-        },
+        0x63 => told(state.offset(), of_vector),
+        0x66 => told(state.is_active(), |active| [u32::from(active)]),
+        0x67 => told(state.settings(), |s| {
+            [s.sample_rate, s.stationary_threshold, s.stationary_period, s.cutoff_frequency].map(bits)
+        }),
         0x68 | 0x6A..=0x6C => offset_port::call(state, code, a),
         _ => refused(1),
     }

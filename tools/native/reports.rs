@@ -6,8 +6,9 @@ use crate::log::{HEADER, RECORD};
 use crate::logs::in_parts;
 use crate::random::Random;
 use crate::report::{self, Seen};
-use gateweave::ahrs::{Ahrs, Axes, Limit, Settings, Started};
-use gateweave::course::{self, Phase};
+use gateweave::ahrs::{Ahrs, Axes, Limit, Settings};
+use gateweave::answer::number_in;
+use gateweave::course::{self, Phase, Run};
 use gateweave::tally::{self, Tally};
 
 /// Holds the reports of the log of a seed to the Rust's, of which that of all records is given; whether the one of a few ends with 11.
@@ -58,11 +59,11 @@ fn reported(random: &mut Random, log: &[u8], most: u32, earlier: u32) -> Vec<u8>
     counted.totals.records = earlier;
     let left = in_parts(random, log, &mut 0, |buffer, n| {
         let fed = tally::feed(most, counted, buffer, n);
-        assert!(fed.refusal == 0, "a part is refused with {}", fed.refusal);
+        assert!(fed.result.is_ok(), "a part is refused: {:?}", fed.result);
         counted = fed.tally;
         (fed.left, course::is_ended(counted.phase))
     });
-    let number = tally::number_at(most, counted, left);
+    let number = number_in(tally::end_of(most, counted, left));
     let printed = last(most, counted, left);
     assert!(number == 0 || printed.ends_with(format!("refused {number}\n").as_bytes()), "another number than the one printed");
     printed
@@ -71,7 +72,7 @@ fn reported(random: &mut Random, log: &[u8], most: u32, earlier: u32) -> Vec<u8>
 fn last(most: u32, counted: Tally, left: usize) -> Vec<u8> {
     let mut out = [0; 382];
     let last = tally::last(most, counted, left, &mut out);
-    assert!(last.refusal == 0, "the end is refused with {}", last.refusal);
+    assert!(last.result.is_ok(), "the end is refused: {:?}", last.result);
     out[..last.n].to_vec()
 }
 
@@ -96,7 +97,8 @@ fn by_hand(random: &mut Random, seed: u64) {
             magnetic_trigger: sensors[1].recovery_trigger,
         });
     }
-    counted.phase = Phase::Ended(true, 0);
+    // The header was accepted, and nothing is refused at the end.
+    counted.phase = Phase::Records(Run { filter, last: None });
     held(seed, "states set by hand", &report::lines(&states, 0), &last(tally::MOST, counted, 0));
 }
 
@@ -110,6 +112,5 @@ fn fresh() -> Ahrs {
         magnetic_rejection: Limit::Squared(0.25),
         rejection_timeout: 5.0,
     };
-    let Started::Fresh(filter) = Ahrs::with_settings(settings) else { unreachable!("settings that are accepted") };
-    filter
+    Ahrs::with_settings(settings).expect("settings that are accepted")
 }

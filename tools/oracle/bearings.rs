@@ -66,7 +66,7 @@ fn rusts([w, x, y, z]: [f32; 4], heading: f32) -> [f32; 4] {
 }
 
 fn fresh() -> ahrs::Ahrs {
-    match ahrs::Ahrs::with_settings(ahrs::Settings {
+    ahrs::Ahrs::with_settings(ahrs::Settings {
         sample_rate: 100.0,
         convention: 0,
         gain: 0.5,
@@ -74,17 +74,15 @@ fn fresh() -> ahrs::Ahrs {
         acceleration_rejection: Limit::Degrees(0.0),
         magnetic_rejection: Limit::Degrees(0.0),
         rejection_timeout: 0.0,
-    }) {
-        ahrs::Started::Fresh(filter) => filter,
-        ahrs::Started::Refused(number) => panic!("the settings are refused: {number}"),
-    }
+    })
+    .expect("settings that are accepted")
 }
 
 fn ports([w, x, y, z]: [f32; 4], to: f32) -> [f32; 4] {
     let mut filter = fresh();
     filter.quaternion = math::Quaternion { w, x, y, z };
     let set = heading::set_heading(filter, to);
-    assert_eq!(set.number, 0, "a heading is refused");
+    assert!(set.result.is_ok(), "a heading is refused");
     let q = set.state.quaternion;
     [q.w, q.x, q.y, q.z]
 }

@@ -1,29 +1,12 @@
 -- A promise has one result: `Determined` holds. Assumes nothing.
-use mathlib.Core.List.{List}
-use Rattle.answer.specs.Refusals.{Check}
-use Rattle.answer.specs.Promises.{Changed, One}
-use Rattle.answer.proofs.Answering.{only_one}
-use Rattle.vector.specs.declared.Vector.{Vector}
-use Rattle.ahrs.specs.declared.Ahrs.{Ahrs}
-use Rattle.ahrs.specs.declared.change.Change.{Change}
-use Rattle.ahrs.specs.Calls.{Updates}
+use Rattle.answer.proofs.Answering.{one_change, one_reading, only_one}
 use Rattle.ahrs.specs.Determined.{Determined}
-
-one_change : (cs : List Check) (new old : Ahrs) → One (λ (r : Change). Changed cs new old r.state r.number)
-one_change cs new old r s p q =
-    let (number, state) = only_one.changed cs new old r.state s.state r.number s.number p q in
-    λ i. record { state = state i; number = number i }
-
-one_update : (s : Ahrs) (g a m : Vector) → One (Updates s g a m)
-one_update s g a m r t p q =
-    let (answer, state) = only_one.moved _ _ _ _ r.state t.state r.answer t.answer p q in
-    λ i. record { state = state i; answer = answer i }
 
 pub determined : Determined
 determined =
     record {
       start = λ t. only_one.answered _ _ _ _;
-      update = one_update;
+      update = λ s g a m. one_reading _ _ _ _;
       update_lent = λ s g a m. only_one.moved _ _ _ _;
       restart = λ s. one_change _ _ _;
       skip_startup = λ s. one_change _ _ _;

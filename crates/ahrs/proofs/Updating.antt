@@ -1,9 +1,8 @@
 -- Whether an update is refused, from the tests that it makes. Assumes nothing.
-use Prim.Native.Nat.{ℕ}
 use mathlib.Core.Path.{◌≡◌, sym, ap, ap₂, ◌∙◌}
-use mathlib.Core.Bool.{Bool, true, false, not, ◌&&◌, true≢false}
-use mathlib.Core.List.{List, [], ◌∷◌}
-use Rattle.answer.specs.Refusals.{Check, check, refusal_of}
+use mathlib.Core.Bool.{true, false, not, ◌&&◌, true≢false}
+use mathlib.Core.List.{[]}
+use Rattle.answer.specs.Refusals.{refusal_of}
 use Rattle.answer.proofs.Answering.{passes, all_pass, passed}
 use Rattle.answer.proofs.Tests.{both, untrue, still}
 use Rattle.vector.specs.declared.Vector.{Vector}
@@ -27,9 +26,3 @@ module _ (s : Ahrs) (g a m : Vector) {n : Ahrs} (e : n ≡ updated_of s g a m) w
       let (d, f) = both (finite_dropped s) (finite_state n) (still (finite_dropped s && finite_state n) h) in
       let next = ap finite_state (sym e) ∙ f in
       passes 4 _ k ∙ passes 5 _ (ap not (updated_shows s g a m d next)) ∙ passes 7 _ (ap not next) ∙ all_pass
-
--- what is refused, and by no check but the last
-pub the_last : (cs : List Check) (k : ℕ) (b : Bool) → refusal_of cs ≡ refusal_of (check k b ∷ []) → (refusal_of cs ≡ 0 → ⊥) → refusal_of cs ≡ k
-unfolding refusal_of
-the_last cs k true e h = e
-the_last cs k false e h = absurd (h e)

@@ -1,4 +1,4 @@
-// The filter lent by its owner for writing: one thin function over the update by value.
+// The filter lent by its owner for writing: one thin function over the update by value, as the project asks.
 ghost use Rattle.ahrs.specs.Calls.{Updates};
 
 use super::Ahrs;

@@ -3,10 +3,11 @@
 
 ghost use Rattle.std.specs.Prelude.{◌≡◌};
 ghost use Rattle.answer.specs.Refusals.{refusal_of};
+ghost use Rattle.answer.specs.Rows.{number_in};
 ghost use Rattle.ahrs.specs.Filter.{finite_state};
 ghost use Rattle.ahrs.specs.Calls.{state_checks};
 
-use answer::Answer;
+use answer::Refusal;
 use math::Quaternion;
 use vector::Vector;
 
@@ -15,12 +16,11 @@ pub mod lent; // lent.rt: update_lent
 pub mod read; // read.rt: calls that only read
 pub mod update; // update.rt: one update
 
-pub use change::{Change, Started};
 pub use lent::update_lent;
 pub use settings::{Axes, Config, Limit, Settings};
 pub use step::Rejection;
 
-#[derive(Clone, Copy)]
+#[derive(Clone, Copy, Debug, PartialEq)]
 pub struct Ahrs {
     pub settings: Settings,
     pub config: Config,
@@ -33,43 +33,31 @@ pub struct Ahrs {
     pub magnetic: Rejection,
 }
 
-// An update: the state, and the new orientation or a refusal.
-#[derive(Clone, Copy)]
-pub struct Reading {
-    pub state: Ahrs,
-    pub answer: Answer,
-}
-
 impl Ahrs {
+    #[tactic(auto, unfolding(crate::specs::Filter::finite_state))]
     pub(crate) fn is_finite(self) -> bool
         ensures { result ≡ finite_state self }
     {
-        let settings = self.settings;
-        let config = self.config;
-        let quaternion = self.quaternion;
-        let accelerometer = self.accelerometer;
-        let acceleration = self.acceleration;
-        let magnetic = self.magnetic;
-        settings.is_finite()
-            & config.is_finite()
-            & quaternion.is_finite()
-            & accelerometer.is_finite()
+        self.settings.is_finite()
+            & self.config.is_finite()
+            & self.quaternion.is_finite()
+            & self.accelerometer.is_finite()
             & number::is_finite(self.startup_gain)
-            & acceleration.is_finite()
-            & magnetic.is_finite()
+            & self.acceleration.is_finite()
+            & self.magnetic.is_finite()
     }
 
-    // The number of a state that is handed in: 4, 5, or 0 where it is sound.
-    pub(crate) fn refusal(self) -> u8
-        ensures { result ≡ refusal_of (state_checks self) }
+    // Why a state that is handed in is refused.
+    #[tactic(auto, unfolding(answer::specs::Refusals::refusal_of))]
+    pub(crate) fn check(self) -> Result<(), Refusal>
+        ensures { number_in result ≡ refusal_of (state_checks self) }
     {
-        let settings = self.settings;
-        if !settings.is_known() {
-            return 4;
+        if !self.settings.is_known() {
+            return Err(Refusal::Unknown);
         }
         if !self.is_finite() {
-            return 5;
+            return Err(Refusal::NotFinite);
         }
-        0
+        Ok(())
     }
 }

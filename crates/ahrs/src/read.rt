@@ -1,35 +1,17 @@
-// Calls that only read the state: what they read, or a refusal's number.
+// Calls that only read the state: what they read, or a refusal.
 ghost use Rattle.std.specs.Prelude.{◌≡◌};
-ghost use Rattle.answer.specs.Refusals.{refusal_of};
 ghost use Rattle.ahrs.specs.Read.{gravity_of, linear_of, earth_frame_of, without_gravity, earth_of};
-ghost use Rattle.ahrs.specs.Calls.{SettingsReads, QuaternionReads, vector_checks, VectorReads, FlagsReads, StatesReads, IgnoredReads};
+ghost use Rattle.ahrs.specs.Calls.{SettingsReads, QuaternionReads, VectorReads, FlagsReads, StatesReads, IgnoredReads};
 
 use super::Ahrs;
+use answer::Refusal;
 use math::Quaternion;
-use settings::{Axes, Settings};
+use settings::{Axes, NED, Settings};
 use step::direction::calculate_half_gravity;
 use vector::Vector;
 
-#[derive(Clone, Copy)]
-pub enum SettingsRead {
-    Read(Settings),
-    Refused(u8),
-}
-
-#[derive(Clone, Copy)]
-pub enum QuaternionRead {
-    Read(Quaternion),
-    Refused(u8),
-}
-
-#[derive(Clone, Copy)]
-pub enum VectorRead {
-    Read(Vector),
-    Refused(u8),
-}
-
 // Overrange recovery shows the axes that went over last. It is on where they are not none.
-#[derive(Clone, Copy)]
+#[derive(Clone, Copy, Debug, PartialEq)]
 pub struct Flags {
     pub startup: bool,
     pub overrange_recovery: Axes,
@@ -37,14 +19,8 @@ pub struct Flags {
     pub magnetic_recovery: bool,
 }
 
-#[derive(Clone, Copy)]
-pub enum FlagsRead {
-    Read(Flags),
-    Refused(u8),
-}
-
 // The Rust's internal states without the error angles. A trigger is a fraction of the timeout.
-#[derive(Clone, Copy)]
+#[derive(Clone, Copy, Debug, PartialEq)]
 pub struct InternalStates {
     pub accelerometer_ignored: bool,
     pub acceleration_recovery_trigger: f32,
@@ -52,26 +28,15 @@ pub struct InternalStates {
     pub magnetic_recovery_trigger: f32,
 }
 
-#[derive(Clone, Copy)]
-pub enum StatesRead {
-    Read(InternalStates),
-    Refused(u8),
-}
-
 // How many updates in a row, up to now, have ignored each sensor. A reading of zeros is ignored too; the largest count stays.
-#[derive(Clone, Copy)]
+#[derive(Clone, Copy, Debug, PartialEq)]
 pub struct IgnoredCounts {
     pub accelerometer: u32,
     pub magnetometer: u32,
 }
 
-#[derive(Clone, Copy)]
-pub enum IgnoredRead {
-    Read(IgnoredCounts),
-    Refused(u8),
-}
-
 // A vector from the sensor's frame to the Earth's: each axis by half a row of the rotation matrix.
+#[tactic(auto, unfolding(crate::specs::Read::earth_frame_of))]
 fn earth_frame(q: Quaternion, a: Vector) -> Vector
     ensures { result ≡ earth_frame_of q a }
 {
@@ -97,153 +62,106 @@ fn earth_frame(q: Quaternion, a: Vector) -> Vector
     }
 }
 
-// An acceleration in the Earth's frame without gravity's 1 g, which points down in NED.
+// An acceleration in the Earth's frame without gravity's 1 g, which points down in NED. Of any number, as `without_gravity` of specs/ is.
+#[tactic(auto, unfolding(crate::specs::Read::without_gravity))]
 fn without_gravity(convention: u8, v: Vector) -> Vector
     ensures { result ≡ without_gravity convention v }
 {
-    if convention == 2 {
-        return Vector {
-            x: v.x,
-            y: v.y,
-            z: v.z + 1.0,
-        };
+    if convention == NED {
+        return Vector { z: v.z + 1.0, ..v };
     }
-    Vector {
-        x: v.x,
-        y: v.y,
-        z: v.z - 1.0,
-    }
+    Vector { z: v.z - 1.0, ..v }
 }
 
 impl Ahrs {
-    pub fn settings(self) -> SettingsRead
+    pub fn settings(self) -> Result<Settings, Refusal>
         ensures { SettingsReads self result }
     {
-        let number = self.refusal();
-        if number != 0 {
-            return SettingsRead::Refused(number);
-        }
-        let settings = self.settings;
-        SettingsRead::Read(settings)
+        self.check()?;
+        Ok(self.settings)
     }
 
-    pub fn quaternion(self) -> QuaternionRead
+    pub fn quaternion(self) -> Result<Quaternion, Refusal>
         ensures { QuaternionReads self result }
     {
-        let number = self.refusal();
-        if number != 0 {
-            return QuaternionRead::Refused(number);
-        }
-        let quaternion = self.quaternion;
-        QuaternionRead::Read(quaternion)
+        self.check()?;
+        Ok(self.quaternion)
     }
 
-    // The number of a vector worked out from the state: the state's, or 7 where it is not finite.
-    fn vector_refusal(self, v: Vector) -> u8
-        ensures { result ≡ refusal_of (vector_checks self v) }
-    {
-        let number = self.refusal();
-        if number != 0 {
-            return number;
-        }
-        if !v.is_finite() {
-            return 7;
-        }
-        0
-    }
-
-    fn read_vector(self, v: Vector) -> VectorRead
+    // A vector worked out from the state, which is refused too where it is not finite.
+    #[tactic(auto, unfolding(answer::specs::Refusals::refusal_of))]
+    fn read_vector(self, v: Vector) -> Result<Vector, Refusal>
         ensures { VectorReads self v result }
     {
-        let number = self.vector_refusal(v);
-        if number != 0 {
-            return VectorRead::Refused(number);
+        self.check()?;
+        if !v.is_finite() {
+            return Err(Refusal::Overflow);
         }
-        VectorRead::Read(v)
+        Ok(v)
     }
 
     // Gravity's direction in the sensor's frame.
-    pub fn gravity(self) -> VectorRead
+    #[tactic(auto, unfolding(crate::specs::Read::gravity_of))]
+    pub fn gravity(self) -> Result<Vector, Refusal>
         ensures { VectorReads self (gravity_of self) result }
     {
-        let settings = self.settings;
-        let q = self.quaternion;
-        self.read_vector(calculate_half_gravity(settings.convention, q).mul(2.0))
+        let gravity = calculate_half_gravity(self.settings.convention, self.quaternion).mul(2.0);
+        self.read_vector(gravity)
     }
 
     // The acceleration without gravity, in the sensor's frame.
-    pub fn linear_acceleration(self) -> VectorRead
+    #[tactic(auto, unfolding(crate::specs::Read::linear_of, crate::specs::Read::gravity_of))]
+    pub fn linear_acceleration(self) -> Result<Vector, Refusal>
         ensures { VectorReads self (linear_of self) result }
     {
-        let settings = self.settings;
-        let q = self.quaternion;
-        let accelerometer = self.accelerometer;
-        self.read_vector(accelerometer.sub(calculate_half_gravity(settings.convention, q).mul(2.0)))
+        let gravity = calculate_half_gravity(self.settings.convention, self.quaternion).mul(2.0);
+        self.read_vector(self.accelerometer.sub(gravity))
     }
 
     // The acceleration without gravity, in the Earth's frame.
-    pub fn earth_acceleration(self) -> VectorRead
+    #[tactic(auto, unfolding(crate::specs::Read::earth_of))]
+    pub fn earth_acceleration(self) -> Result<Vector, Refusal>
         ensures { VectorReads self (earth_of self) result }
     {
-        let settings = self.settings;
-        let q = self.quaternion;
-        let accelerometer = self.accelerometer;
-        self.read_vector(without_gravity(settings.convention, earth_frame(q, accelerometer)))
+        let acceleration = earth_frame(self.quaternion, self.accelerometer);
+        self.read_vector(without_gravity(self.settings.convention, acceleration))
     }
 
-    pub fn flags(self) -> FlagsRead
+    #[tactic(auto, unfolding(crate::specs::Read::flags_of))]
+    pub fn flags(self) -> Result<Flags, Refusal>
         ensures { FlagsReads self result }
     {
-        let number = self.refusal();
-        if number != 0 {
-            return FlagsRead::Refused(number);
-        }
-        let overrange_recovery = self.overrange_recovery;
-        let acceleration = self.acceleration;
-        let magnetic = self.magnetic;
-        let acceleration_recovery = acceleration.counts().recovery();
-        let magnetic_recovery = magnetic.counts().recovery();
-        FlagsRead::Read(Flags {
+        self.check()?;
+        Ok(Flags {
             startup: self.startup,
-            overrange_recovery,
-            acceleration_recovery,
-            magnetic_recovery,
+            overrange_recovery: self.overrange_recovery,
+            acceleration_recovery: self.acceleration.counts().recovery(),
+            magnetic_recovery: self.magnetic.counts().recovery(),
         })
     }
 
     // The ratios are finite whatever the counts are, so 7 is not asked for.
-    pub fn internal_states(self) -> StatesRead
+    #[tactic(auto, unfolding(crate::specs::Read::states_of))]
+    pub fn internal_states(self) -> Result<InternalStates, Refusal>
         ensures { StatesReads self result }
     {
-        let number = self.refusal();
-        if number != 0 {
-            return StatesRead::Refused(number);
-        }
-        let config = self.config;
-        let acceleration = self.acceleration;
-        let magnetic = self.magnetic;
-        let timeout = config.rejection_timeout;
-        let states = InternalStates {
-            accelerometer_ignored: acceleration.ignored,
-            acceleration_recovery_trigger: acceleration.recovery_trigger(timeout),
-            magnetometer_ignored: magnetic.ignored,
-            magnetic_recovery_trigger: magnetic.recovery_trigger(timeout),
-        };
-        StatesRead::Read(states)
+        self.check()?;
+        let timeout = self.config.rejection_timeout;
+        Ok(InternalStates {
+            accelerometer_ignored: self.acceleration.ignored,
+            acceleration_recovery_trigger: self.acceleration.recovery_trigger(timeout),
+            magnetometer_ignored: self.magnetic.ignored,
+            magnetic_recovery_trigger: self.magnetic.recovery_trigger(timeout),
+        })
     }
 
-    pub fn ignored_counts(self) -> IgnoredRead
+    pub fn ignored_counts(self) -> Result<IgnoredCounts, Refusal>
         ensures { IgnoredReads self result }
     {
-        let number = self.refusal();
-        if number != 0 {
-            return IgnoredRead::Refused(number);
-        }
-        let acceleration = self.acceleration;
-        let magnetic = self.magnetic;
-        IgnoredRead::Read(IgnoredCounts {
-            accelerometer: acceleration.ignored_count,
-            magnetometer: magnetic.ignored_count,
+        self.check()?;
+        Ok(IgnoredCounts {
+            accelerometer: self.acceleration.ignored_count,
+            magnetometer: self.magnetic.ignored_count,
         })
     }
 }

@@ -1,11 +1,9 @@
 -- The matrix by the places of a mounting is the mounting's. Assumes nothing.
 use Prim.Native.Nat.{ℕ}
 use mathlib.Core.Path.{◌≡◌, ap, ◌∙◌}
-use mathlib.Core.Bool.{Bool, false, cond}
 use mathlib.Core.List.{List, [], ◌∷◌}
-use lib.Dec.{ltb}
 use lib.Ieee.{Float}
-use Rattle.vector.specs.Axes.{place_of, places, no_places, axes_of}
+use Rattle.vector.specs.Axes.{place_of, places, places_of}
 use Rattle.vector.specs.Mounting.{Signed, Mounting, mounting_of}
 use Rattle.vector.proofs.Axes.{at_place, own}
 use Rattle.math.specs.declared.matrix.Matrix.{Matrix}
@@ -25,12 +23,9 @@ by_places m = let (p, q, r) = own m in by_rows (axis m.x p) (axis m.y q) (axis m
     axis : {n : ℕ} (s : Signed) → n ≡ place_of s → row_at n ≡ float_row s
     axis s e = ap row_at e ∙ at_place float_row [] s
 
--- ---- what `axes_of` gives of a mounting
+-- ---- a mounting's own places
 
-module _ (n : ℕ) {a : ℕ} (f : ltb 23 n ≡ false) (e : a ≡ axes_of n) where
-  its_places : a ≡ places (mounting_of n)
-  its_places = e ∙ ap (λ (b : Bool). cond b no_places (places (mounting_of n))) f
-
+module _ {k n : ℕ} (i : k ≡ n) {a : ℕ} (e : a ≡ places_of k) where
   pub its_matrix : {r : Matrix} → r ≡ matrix_by a → r ≡ to_matrix_of n
   unfolding to_matrix_of
-  its_matrix g = g ∙ ap matrix_by its_places ∙ by_places (mounting_of n)
+  its_matrix g = g ∙ ap matrix_by e ∙ by_places (mounting_of k) ∙ ap to_matrix_of i

@@ -18,17 +18,20 @@ use Rattle.remap.specs.Names.{name_of, same}
 use Rattle.remap.specs.Composition.{compose_of, inverse_of}
 use Rattle.math.specs.declared.matrix.Matrix.{Matrix}
 use Rattle.math.specs.Matrices.{from_rows_of, mul_vector_of, transpose_of}
-use Rattle.alignment.specs.declared.MatrixRead.{MatrixRead}
-use Rattle.alignment.specs.declared.MatrixRead.TheVariants.{Read, Refused}
+use Rattle.std.specs.declared.result.Result.{Result}
+use Rattle.std.specs.declared.result.Result.TheVariants.{Ok, Err}
+use Rattle.answer.specs.Rows.{row_of}
+use Rattle.answer.specs.declared.refusal.Refusal.{Refusal}
+use Rattle.answer.specs.declared.refusal.Refusal.TheVariants.{Unknown, NotFinite, Overflow}
 use Rattle.alignment.specs.Whole.{Rows, rows, row, times, whole_matrix}
 use Rattle.alignment.specs.Matrix.{floats_of, to_matrix_of, rotate_of, matrix_checks, Gives}
 
 -- ---- matrices
 
 -- an answer's code by a code of the matrix; a refusal's is beyond every pattern
-abbrev read_by : (Matrix → ℕ) → MatrixRead → ℕ
-read_by code (Read m) = code m
-read_by code (Refused n) = 0x1_0000_0000 + n
+abbrev read_by : (Matrix → ℕ) → Result Matrix Refusal → ℕ
+read_by code (Ok m) = code m
+read_by code (Err e) = 0x1_0000_0000 + row_of e
 
 abbrev in_xy : Matrix → ℕ
 in_xy m = bits m.xy
@@ -48,17 +51,17 @@ unsigned = rows (row (pos 1) (pos 0) (pos 0)) (row (pos 0) (pos 0) (pos 1)) (row
 abbrev with_minus_zero : Matrix
 with_minus_zero = from_rows_of ((one ∷ minus_nought ∷ nought ∷ []) ∷ (nought ∷ one ∷ nought ∷ []) ∷ (nought ∷ nought ∷ one ∷ []) ∷ [])
 
-abbrev Says : ℕ → MatrixRead → Type 0
+abbrev Says : ℕ → Result Matrix Refusal → Type 0
 Says n r = Gives (matrix_checks n) (to_matrix_of n) r
 
 -- the transpose; a row swapped; a sign; a minus zero; a refusal of the last mounting; and 24 taken
 pub of_to_matrix
-    : (Says 11 (Read (transpose_of (to_matrix_of 11))) → ⊥)
-    × (Says 11 (Read (floats_of swapped)) → ⊥)
-    × (Says 1 (Read (floats_of unsigned)) → ⊥)
-    × (Says 0 (Read with_minus_zero) → ⊥)
-    × (Says 23 (Refused 4) → ⊥)
-    × (Says 24 (Read (to_matrix_of 0)) → ⊥)
+    : (Says 11 (Ok (transpose_of (to_matrix_of 11))) → ⊥)
+    × (Says 11 (Ok (floats_of swapped)) → ⊥)
+    × (Says 1 (Ok (floats_of unsigned)) → ⊥)
+    × (Says 0 (Ok with_minus_zero) → ⊥)
+    × (Says 23 (Err Unknown) → ⊥)
+    × (Says 24 (Ok (to_matrix_of 0)) → ⊥)
 unfolding refusal_of mounting_of to_matrix_of of_int round units odd to_bits
 of_to_matrix = (
   λ h. apart (read_by in_xy) h.exact refl,
@@ -82,16 +85,16 @@ abbrev in_y : Answer → ℕ
 in_y (answer.Rates x y z) = bits y
 in_y (answer.Turned x y z) = bits y
 in_y (answer.Oriented w x y z) = bits y
-in_y (answer.Refused n) = 0x1_0000_0000 + n
+in_y (answer.Refused e) = 0x1_0000_0000 + row_of e
 
 -- by the transposed matrix; the vector itself; refused with 7; 24 turned, and refused with 5; the minus zero that `remap` gives where the product
 -- has 0·1 + 1·-0 + 0·0
 pub of_rotate
     : (Turns one_two_half 11 (turned_answer (mul_vector_of (transpose_of (to_matrix_of 11)) one_two_half)) → ⊥)
     × (Turns one_two_half 11 (turned_answer one_two_half) → ⊥)
-    × (Turns one_two_half 11 (answer.Refused 7) → ⊥)
+    × (Turns one_two_half 11 (answer.Refused Overflow) → ⊥)
     × (Turns one_two_half 24 (turned_answer one_two_half) → ⊥)
-    × (Turns (vector nan two half) 24 (answer.Refused 5) → ⊥)
+    × (Turns (vector nan two half) 24 (answer.Refused NotFinite) → ⊥)
     × (Turns (vector one minus_nought nought) 0 (turned_answer (turn_of 0 (vector one minus_nought nought))) → ⊥)
 unfolding refusal_of mounting_of finite_vector rotate_of to_matrix_of neg add mul sum of_int round units odd to_bits
 of_rotate = (

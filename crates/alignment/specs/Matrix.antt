@@ -1,15 +1,15 @@
 -- 02, P9: each mounting's 3 by 3 matrix of 0, 1 and -1, and a plain turn by the ported matrix product.
+use Rattle.answer.specs.Said.{alone}
 use Rattle.std.specs.Prelude.{ℕ, List, [], ◌∷◌, ltb, ℤ, Float}
 use Rattle.std.specs.Float.{binary32}
 use Rattle.std.specs.Float.Ieee.{of_int}
 use Rattle.answer.specs.Refusals.{Check, check}
-use Rattle.answer.specs.Said.{Said, values, refusal}
-use Rattle.answer.specs.Promises.{Answered}
+use Rattle.answer.specs.Promises.{Results}
 use Rattle.vector.specs.declared.Vector.{Vector}
 use Rattle.math.specs.declared.matrix.Matrix.{Matrix}
 use Rattle.math.specs.Matrices.{mul_vector_of}
-use Rattle.alignment.specs.declared.MatrixRead.{MatrixRead}
-use Rattle.alignment.specs.declared.MatrixRead.TheVariants.{Read, Refused}
+use Rattle.std.specs.declared.result.Result.{Result}
+use Rattle.answer.specs.declared.refusal.Refusal.{Refusal}
 use Rattle.alignment.specs.Whole.{Rows, whole_matrix}
 
 abbrev pub float_of : ℤ → Float
@@ -42,10 +42,6 @@ rotate_of n v = mul_vector_of (to_matrix_of n) v
 abbrev pub matrix_checks : ℕ → List Check
 matrix_checks n = check 4 (ltb 23 n) ∷ []
 
-abbrev pub matrix_said : MatrixRead → Said Matrix
-matrix_said (Read m) = values (m ∷ [])
-matrix_said (Refused n) = refusal n
-
 -- r answers the matrix m by these checks
-abbrev pub Gives : List Check → Matrix → MatrixRead → Type 0
-Gives cs m r = Answered matrix_said Refused cs (Read m) r
+abbrev pub Gives : List Check → Matrix → Result Matrix Refusal → Type 0
+Gives cs m r = Results alone cs m r

@@ -6,10 +6,17 @@ use mathlib.Core.Bool.{Bool, true, false, not}
 use mathlib.Core.List.{List, [], ◌∷◌}
 use Rattle.answer.specs.declared.Answer.{Answer}
 use Rattle.answer.specs.declared.Answer.TheVariants.{Refused}
+use Rattle.answer.specs.declared.change.Change.{Change}
+use Rattle.answer.specs.declared.change.Reading.{Reading}
+use Rattle.answer.specs.declared.refusal.Refusal.{Refusal}
+use Rattle.answer.specs.declared.refusal.Refusal.TheVariants.{Length, Mark, Version, Unknown, NotFinite, OutOfRange, Overflow, Sequence, Norm, Shared, TooMany}
+use Rattle.std.specs.declared.result.Result.{Result}
+use Rattle.std.specs.declared.result.Result.TheVariants.{Ok, Err}
 use Rattle.answer.specs.Refusals.{Check, check, refusal_of, accepted}
 use Rattle.answer.specs.Said.{Said, refusal, number_said, values_said}
-use Rattle.answer.specs.Answers.{number_of, answer_said}
-use Rattle.answer.specs.Promises.{Answered, Answers, Changed, Moved, OnlyOne}
+use Rattle.answer.specs.Rows.{row_of, refusal_at, number_in, result_said}
+use Rattle.answer.specs.Answers.{number_of, answer_said, refused}
+use Rattle.answer.specs.Promises.{Answered, Answers, Results, Changed, Moved, One, OnlyOne}
 
 -- ---- which check fails
 
@@ -36,37 +43,82 @@ unfolding refusal_of
 unfailed k true cs e = absurd (omega arith)
 unfailed k false cs e = (refl, e)
 
+-- ---- a refusal's number, and the refusal of a number
+
+pub at_row : (e : Refusal) → refusal_at (row_of e) ≡ e
+at_row = elim [ Length ↦ refl | Mark ↦ refl | Version ↦ refl | Unknown ↦ refl | NotFinite ↦ refl | OutOfRange ↦ refl | Overflow ↦ refl | Sequence ↦ refl | Norm ↦ refl | Shared ↦ refl | TooMany ↦ refl ]
+
+pub is_row : (e : Refusal) → row_of e ≡ 0 → ⊥
+is_row e h = absurd (go e h)
+  where
+    go : (e : Refusal) → row_of e ≡ 0 → ⊥
+    go Length h = omega arith
+    go Mark h = omega arith
+    go Version h = omega arith
+    go Unknown h = omega arith
+    go NotFinite h = omega arith
+    go OutOfRange h = omega arith
+    go Overflow h = omega arith
+    go Sequence h = omega arith
+    go Norm h = omega arith
+    go Shared h = omega arith
+    go TooMany h = omega arith
+
+-- a result that gives nothing is known by its number
+pub same_result : (r s : Result (Unit {0}) Refusal) → number_in r ≡ number_in s → r ≡ s
+same_result (Ok u) (Ok v) h = refl
+same_result (Ok u) (Err e) h = absurd (is_row e (sym h))
+same_result (Err e) (Ok v) h = absurd (is_row e h)
+same_result (Err e) (Err f) h = ap Err (sym (at_row e) ∙ ap refusal_at h ∙ at_row f)
+
 -- ---- a call that answers, of any type of answers whose refusals carry their number alone
 
-module _ {A B : Type 0} (said : A → Said B) (refused : ℕ → A) (bare : (n : ℕ) → said (refused n) ≡ refusal n)
+module _ {A B : Type 0} (said : A → Said B) (refused : ℕ → A) (bare : (e : Refusal) → said (refused (row_of e)) ≡ refusal (row_of e))
     (cs : List Check) (a : A) (z : number_said (said a) ≡ 0) where
-  answered : (k : ℕ) → refusal_of cs ≡ k → Answered said refused cs a (accepted k a (refused k))
-  answered zero e =
-      record {
-        exact = ap (λ (n : ℕ). accepted n a (refused n)) (sym e);
-        number = z ∙ sym e;
-        values = ap (λ (n : ℕ). accepted n (values_said (said a)) []) (sym e);
-      }
-  answered (suc k) e =
-      record {
-        exact = ap (λ (n : ℕ). accepted n a (refused n)) (sym e);
-        number = ap number_said (bare (suc k)) ∙ sym e;
-        values = ap values_said (bare (suc k)) ∙ ap (λ (n : ℕ). accepted n (values_said (said a)) []) (sym e);
-      }
-
-  pub refuses : {n : ℕ} → n ≡ refusal_of cs → (n ≡ 0 → ⊥) → Answered said refused cs a (refused n)
-  refuses {n} e h = go n e h
+  pub refuses_by : (e : Refusal) → row_of e ≡ refusal_of cs → {r : A} → r ≡ refused (row_of e) → Answered said refused cs a r
+  refuses_by e n {r} f = subst (λ (x : A). Answered said refused cs a x) (sym f) (go (row_of e) n (is_row e) (bare e))
     where
-      go : (k : ℕ) → k ≡ refusal_of cs → (k ≡ 0 → ⊥) → Answered said refused cs a (refused k)
-      go zero p g = absurd (g refl)
-      go (suc k) p g = answered (suc k) (sym p)
+      go : (k : ℕ) → k ≡ refusal_of cs → (k ≡ 0 → ⊥) → said (refused k) ≡ refusal k → Answered said refused cs a (refused k)
+      go zero p g b = absurd (g refl)
+      go (suc k) p g b =
+          record {
+            exact = ap (λ (n : ℕ). accepted n a (refused n)) p;
+            number = ap number_said b ∙ p;
+            values = ap values_said b ∙ ap (λ (n : ℕ). accepted n (values_said (said a)) []) p;
+          }
 
-  pub gives : {n : ℕ} → n ≡ refusal_of cs → n ≡ 0 → {r : A} → r ≡ a → Answered said refused cs a r
-  gives e h f = subst (λ (x : A). Answered said refused cs a x) (sym f) (answered 0 (sym e ∙ h))
+  pub gives_by : 0 ≡ refusal_of cs → {r : A} → r ≡ a → Answered said refused cs a r
+  gives_by e f =
+      subst
+      (λ (x : A). Answered said refused cs a x)
+      (sym f)
+      (record {
+        exact = ap (λ (n : ℕ). accepted n a (refused n)) e;
+        number = z ∙ e;
+        values = ap (λ (n : ℕ). accepted n (values_said (said a)) []) e;
+      })
 
--- an `Answer` that is what the checks say is one by them
-pub answers : (cs : List Check) (a r : Answer) → number_of a ≡ 0 → r ≡ accepted (refusal_of cs) a (Refused (refusal_of cs)) → Answers cs a r
-answers cs a r z e = subst (λ (x : Answer). Answers cs a x) (sym e) (answered answer_said Refused (λ n. refl) cs a z (refusal_of cs) refl)
+-- ---- a result
+
+module _ {A B : Type 0} (vals : A → List B) (cs : List Check) (a : A) where
+  result_refused : ℕ → Result A Refusal
+  result_refused n = Err (refusal_at n)
+
+  pub refuses_result : (e : Refusal) → row_of e ≡ refusal_of cs → Results vals cs a (Err e)
+  refuses_result e n =
+      refuses_by (result_said vals) (λ k. Err (refusal_at k)) (λ f. ap refusal (ap row_of (at_row f))) cs (Ok a) refl e n (ap Err (sym (at_row e)))
+
+  pub gives_result : 0 ≡ refusal_of cs → {r : Result A Refusal} → r ≡ Ok a → Results vals cs a r
+  gives_result = gives_by (result_said vals) (λ k. Err (refusal_at k)) (λ f. ap refusal (ap row_of (at_row f))) cs (Ok a) refl
+
+-- ---- an `Answer`
+
+module _ (cs : List Check) (a : Answer) (z : number_of a ≡ 0) where
+  pub refuses : (e : Refusal) → row_of e ≡ refusal_of cs → Answers cs a (Refused e)
+  refuses e n = refuses_by answer_said refused (λ f. ap refusal (ap row_of (at_row f))) cs a z e n (ap Refused (sym (at_row e)))
+
+  pub gives : 0 ≡ refusal_of cs → {r : Answer} → r ≡ a → Answers cs a r
+  gives = gives_by answer_said refused (λ f. ap refusal (ap row_of (at_row f))) cs a z
 
 -- ---- a call that changes something
 
@@ -87,6 +139,9 @@ module _ {S : Type 0} (cs : List Check) (new old : S) {n : ℕ} (e : n ≡ refus
 
   pub becomes : n ≡ 0 → {now : S} → now ≡ new → Changed cs new old now 0
   becomes h f = record { number = sym h ∙ e; holds = f ∙ state_of h }
+
+  pub refuses_change : (e : Refusal) → n ≡ row_of e → Changed cs new old old n
+  refuses_change e h = stays (λ z. is_row e (sym h ∙ z))
 
 -- what a call that is not refused leaves
 pub is_new : {A : Type 0} {k : ℕ} (new old : A) {left : A} → left ≡ accepted k new old → k ≡ 0 → left ≡ new
@@ -116,12 +171,12 @@ module _ {S : Type 0} (checks : S → List Check) (make : S → S)
 
 -- ---- a call that answers and changes the state
 
-module _ {S : Type 0} (cs : List Check) (a : Answer) (z : number_of a ≡ 0) (new old : S) {n : ℕ} (e : n ≡ refusal_of cs) where
-  pub unmoved : (n ≡ 0 → ⊥) → Moved cs a new old old (Refused n)
-  unmoved h = record { answer = refuses answer_said Refused (λ k. refl) cs a z e h; state = old_stays cs new old e h }
+module _ {S : Type 0} (cs : List Check) (a : Answer) (z : number_of a ≡ 0) (new old : S) where
+  pub unmoved : (e : Refusal) → row_of e ≡ refusal_of cs → Moved cs a new old old (Refused e)
+  unmoved e n = record { answer = refuses cs a z e n; state = old_stays cs new old n (is_row e) }
 
-  pub moved : n ≡ 0 → {now : S} {r : Answer} → now ≡ new → r ≡ a → Moved cs a new old now r
-  moved h f g = record { answer = gives answer_said Refused (λ k. refl) cs a z e h g; state = f ∙ state_of cs new old e h }
+  pub moved : 0 ≡ refusal_of cs → {now : S} {r : Answer} → now ≡ new → r ≡ a → Moved cs a new old now r
+  moved e f g = record { answer = gives cs a z e g; state = f ∙ ap (λ (k : ℕ). accepted k new old) e }
 
 -- ---- a promise has one result
 
@@ -132,3 +187,15 @@ only_one =
       changed = λ cs new old now also r s p q. (p.number ∙ sym q.number, p.holds ∙ sym q.holds);
       moved = λ cs a new old now also r s p q. (p.answer.exact ∙ sym q.answer.exact, p.state ∙ sym q.state);
     }
+
+-- so has a change, whatever the state
+pub one_change : {S : Type 0} (cs : List Check) (new old : S) → One (λ (r : Change S). Changed cs new old r.state (number_in r.result))
+one_change cs new old r s p q =
+    let (number, state) = only_one.changed cs new old r.state s.state (number_in r.result) (number_in s.result) p q in
+    λ i. record { state = state i; result = same_result r.result s.result number i }
+
+-- and a reading
+pub one_reading : {S : Type 0} (cs : List Check) (a : Answer) (new old : S) → One (λ (r : Reading S). Moved cs a new old r.state r.answer)
+one_reading cs a new old r s p q =
+    let (answer, state) = only_one.moved cs a new old r.state s.state r.answer s.answer p q in
+    λ i. record { state = state i; answer = answer i }

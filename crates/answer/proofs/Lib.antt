@@ -5,5 +5,4 @@ pub mod Joined  -- checks that come after others; on Table
 pub mod Tests  -- what a test of several parts says of its parts
 pub mod Answering  -- what the two returns of a call have to show, and that a promise has one result
 pub mod Running  -- a run of calls, over any state
-pub mod Walk  -- what a walk by hand needs of an `Answer`
 mod Wrong

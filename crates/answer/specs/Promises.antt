@@ -1,13 +1,16 @@
 -- What a call promises, stated once for every type of answers and of states: of one that answers, of one that changes something, of one that does both.
 use Rattle.std.specs.Prelude.{ℕ, ◌≡◌, List, []}
 use Rattle.answer.specs.declared.Answer.{Answer}
-use Rattle.answer.specs.declared.Answer.TheVariants.{Refused}
+use Rattle.std.specs.declared.result.Result.{Result}
+use Rattle.std.specs.declared.result.Result.TheVariants.{Ok, Err}
+use Rattle.answer.specs.declared.refusal.Refusal.{Refusal}
 use Rattle.answer.specs.Refusals.{Check, refusal_of, accepted}
 use Rattle.answer.specs.Said.{Said, number_said, values_said}
-use Rattle.answer.specs.Answers.{answer_said}
+use Rattle.answer.specs.Rows.{refusal_at, result_said}
+use Rattle.answer.specs.Answers.{answer_said, refused}
 
 -- r is the refusal that the checks give, or where they give none the answer a; a refusal carries its number and nothing else.
--- `said` is what each case of the answer's type says, `refused` its refusals.
+-- `said` is what each case of the answer's type says, `refused` the refusal of a number.
 pub record Answered {A B : Type 0} (said : A → Said B) (refused : ℕ → A) (cs : List Check) (a r : A) : Type 0 where
   pub exact : r ≡ accepted (refusal_of cs) a (refused (refusal_of cs))
   pub number : number_said (said r) ≡ refusal_of cs
@@ -15,7 +18,11 @@ pub record Answered {A B : Type 0} (said : A → Said B) (refused : ℕ → A) (
 
 -- r answers a by these checks
 abbrev pub Answers : List Check → Answer → Answer → Type 0
-Answers cs a r = Answered answer_said Refused cs a r
+Answers cs a r = Answered answer_said refused cs a r
+
+-- r gives a by these checks; `vals` are a's values
+abbrev pub Results : {A B : Type 0} → (A → List B) → List Check → A → Result A Refusal → Type 0
+Results vals cs a r = Answered (result_said vals) (λ n. Err (refusal_at n)) cs (Ok a) r
 
 -- r is the number that the checks give, and what was lent or handed in is `new`, or where they refuse what it was
 pub record Changed {S : Type 0} (cs : List Check) (new old now : S) (r : ℕ) : Type 0 where

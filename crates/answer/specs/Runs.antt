@@ -1,7 +1,7 @@
 -- A run of calls, over any state and any calls: what each leaves and tells, by the definitions that the calls' promises cite.
 use Rattle.std.specs.Prelude.{ℕ, ◌≡◌, List, [], ◌∷◌}
 use Rattle.answer.specs.declared.Answer.{Answer}
-use Rattle.answer.specs.declared.Answer.TheVariants.{Refused}
+use Rattle.answer.specs.Answers.{refused}
 use Rattle.answer.specs.Refusals.{Check, refusal_of, accepted}
 use Rattle.answer.specs.Promises.{Changed, Moved}
 
@@ -24,7 +24,7 @@ abbrev pub changed_by : {S : Type 0} → S → S → ℕ → Step S
 changed_by new old n = record { state = accepted n new old; told = number n }
 
 abbrev pub moved_by : {S : Type 0} → Answer → S → S → ℕ → Step S
-moved_by a new old n = record { state = accepted n new old; told = answer (accepted n a (Refused n)) }
+moved_by a new old n = record { state = accepted n new old; told = answer (accepted n a (refused n)) }
 
 abbrev pub step_by : {S : Type 0} → S → Outline S → Step S
 step_by old (sets cs new) = changed_by new old (refusal_of cs)

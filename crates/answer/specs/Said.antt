@@ -1,5 +1,5 @@
 -- What an answer says, of any type of answers: values, or a refusal's number and nothing else.
-use Rattle.std.specs.Prelude.{ℕ, List, []}
+use Rattle.std.specs.Prelude.{ℕ, List, [], ◌∷◌}
 
 pub data Said (B : Type 0) : Type 0 where
   values : List B → Said B
@@ -13,3 +13,7 @@ number_said (refusal n) = n
 abbrev pub values_said : {B : Type 0} → Said B → List B
 values_said (values vs) = vs
 values_said (refusal n) = []
+
+-- what an answer of one thing says
+abbrev pub alone : {A : Type 0} → A → List A
+alone a = a ∷ []

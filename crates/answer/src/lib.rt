@@ -1,15 +1,24 @@
-// What a call that answers floats answers: the corrected rates, the turned vector or the new orientation, or a refusal's number.
+// What a call answers: a refusal by the table, or what it gives; beside it the state, where the call has one.
 #![tactic(auto)]
 
 ghost use Rattle.std.specs.Prelude.{◌≡◌};
 ghost use Rattle.answer.specs.Answers.{number_of};
+ghost use Rattle.answer.specs.Rows.{number_in};
 
-#[derive(Clone, Copy)]
+pub mod change; // change.rt: the state beside a result, or beside an answer
+pub mod refusal; // refusal.rt: the refusal table
+
+pub use change::{Change, Reading};
+pub use refusal::{Refusal, number_in};
+
+// The corrected rates, the turned vector or the new orientation, or a refusal. No Result: the project asks for one enum with a case for the
+// refusal; `check` makes a Result of it.
+#[derive(Clone, Copy, Debug, PartialEq)]
 pub enum Answer {
     Rates(f32, f32, f32),
     Turned(f32, f32, f32),
     Oriented(f32, f32, f32, f32),
-    Refused(u8),
+    Refused(Refusal),
 }
 
 impl Answer {
@@ -18,10 +27,22 @@ impl Answer {
         ensures { result ≡ number_of self }
     {
         match self {
-            Answer::Refused(n) => n,
+            Answer::Refused(refusal) => refusal.number(),
             Answer::Rates(_, _, _) => 0,
             Answer::Turned(_, _, _) => 0,
             Answer::Oriented(_, _, _, _) => 0,
+        }
+    }
+
+    // Whether it is a refusal, as a result: for `?`, and for a call that answers nothing else.
+    pub fn check(self) -> Result<(), Refusal>
+        ensures { number_in result ≡ number_of self }
+    {
+        match self {
+            Answer::Refused(refusal) => Err(refusal),
+            Answer::Rates(_, _, _) => Ok(()),
+            Answer::Turned(_, _, _) => Ok(()),
+            Answer::Oriented(_, _, _, _) => Ok(()),
         }
     }
 }

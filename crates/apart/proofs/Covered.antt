@@ -1,7 +1,12 @@
 -- The code's calls are the turns of a run: `Covered` and `Shows` hold. Assumes nothing.
 use Prim.Native.Nat.{ℕ}
 use mathlib.Core.Path.{◌≡◌, refl, sym, ap, ap₂, ◌∙◌}
+use Rattle.std.specs.declared.result.Result.{Result}
+use Rattle.std.specs.declared.result.Result.TheVariants.{Ok, Err}
+use Rattle.answer.specs.declared.refusal.Refusal.{Refusal}
+use Rattle.answer.specs.declared.change.Change.{Change}
 use Rattle.answer.specs.Refusals.{refusal_of, accepted}
+use Rattle.answer.specs.Rows.{refusal_at, number_in}
 use Rattle.answer.specs.Runs as runs
 use Rattle.settings.specs.declared.Settings.{Settings}
 use Rattle.settings.specs.Config.{settings_checks}
@@ -9,12 +14,9 @@ use Rattle.ahrs.specs.declared.Ahrs.{Ahrs}
 use Rattle.reached.specs.Runs.{Call, outline_of}
 use Rattle.table.specs.declared.Table.{Table}
 use Rattle.table.specs.declared.Party.{Party}
-use Rattle.table.specs.declared.start.Started.{Started}
-use Rattle.table.specs.declared.start.Started.TheVariants.{Fresh, Refused}
 use Rattle.table.specs.declared.foot.Foot.{Foot}
 use Rattle.table.specs.declared.foot.Side.{Side}
 use Rattle.table.specs.declared.foot.Side.TheVariants.{First, Second}
-use Rattle.table.specs.declared.foot.Stood.{Stood}
 use Rattle.table.specs.Calls.{fresh_party, Starts, row_of, settled_of, choose_checks, shared_with, rewrite_checks}
 use Rattle.table.specs.Sides.{party_of, other_row, with_filter, FootChooses, FootRewrites}
 use Rattle.table.proofs.Sides.{in_the_foot}
@@ -23,14 +25,14 @@ use Rattle.apart.specs.Turns.{call, look, choose, rewrite, told, shown}
 use Rattle.apart.specs.Covered.{turn, standing, Goes, numbered, Covered, Shows}
 
 -- the party of a start, where there is one
-abbrev started_of : Party → Started → Party
-started_of p (Fresh q) = q
-started_of p (Refused n) = p
+abbrev started_of : Party → Result Party Refusal → Party
+started_of p (Ok q) = q
+started_of p (Err e) = p
 
-started : (row : ℕ) (s : Settings) (p : Party) → Starts row s (Fresh p) → (refusal_of (settings_checks s) ≡ 0) × (p ≡ fresh_party row s)
+started : (row : ℕ) (s : Settings) (p : Party) → Starts row s (Ok p) → (refusal_of (settings_checks s) ≡ 0) × (p ≡ fresh_party row s)
 started row s p h =
     let e = sym h.number in
-    (e, ap (started_of p) (h.exact ∙ ap (λ (n : ℕ). accepted n (Fresh (fresh_party row s)) (Refused n)) e))
+    (e, ap (started_of p) (h.exact ∙ ap (λ (n : ℕ). accepted n (Ok (fresh_party row s)) (Err (refusal_at n))) e))
 
 called
     : (side : Side) (f : Foot) (t : Table) (c : Call) (s : runs.Step Ahrs) → runs.step_of outline_of (party_of side f).filter c ≡ s
@@ -43,8 +45,8 @@ looked First f t l = record { left = refl; heard = refl }
 looked Second f t l = record { left = refl; heard = refl }
 
 chosen
-    : (side : Side) (f : Foot) (t : Table) (row : ℕ) (r : Stood) → FootChooses t f side row r
-    → Goes (standing f t) (turn side (choose row)) (standing r.foot t) (numbered r.number)
+    : (side : Side) (f : Foot) (t : Table) (row : ℕ) (r : Change Foot) → FootChooses t f side row r
+    → Goes (standing f t) (turn side (choose row)) (standing r.state t) (numbered (number_in r.result))
 chosen side f t row r h =
     let p = party_of side f in
     let s = row_of t row in
@@ -54,8 +56,8 @@ chosen side f t row r h =
     }
 
 rewritten
-    : (side : Side) (f : Foot) (t t' : Table) (s : Settings) (r : Stood) → FootRewrites t f side s t' r
-    → Goes (standing f t) (turn side (rewrite s)) (standing r.foot t') (numbered r.number)
+    : (side : Side) (f : Foot) (t t' : Table) (s : Settings) (r : Change Foot) → FootRewrites t f side s t' r
+    → Goes (standing f t) (turn side (rewrite s)) (standing r.state t') (numbered (number_in r.result))
 rewritten side f t t' s r h =
     let p = party_of side f in
     let n = refusal_of (rewrite_checks p (shared_with p (other_row side f)) s) in

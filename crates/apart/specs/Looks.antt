@@ -1,16 +1,19 @@
 -- The calls that only read the filter: what each gives of a state, by the definitions that its promise cites.
-use Rattle.std.specs.Prelude.{ℕ, List}
+use Rattle.std.specs.Prelude.{List}
+use Rattle.std.specs.declared.result.Result.{Result}
+use Rattle.std.specs.declared.result.Result.TheVariants.{Ok, Err}
+use Rattle.answer.specs.declared.refusal.Refusal.{Refusal}
 use Rattle.answer.specs.Refusals.{Check, refusal_of, accepted}
+use Rattle.answer.specs.Rows.{refusal_at}
+use Rattle.vector.specs.declared.Vector.{Vector}
+use Rattle.math.specs.declared.quaternion.Quaternion.{Quaternion}
+use Rattle.settings.specs.declared.Settings.{Settings}
 use Rattle.ahrs.specs.declared.Ahrs.{Ahrs}
-use Rattle.ahrs.specs.declared.read.SettingsRead as settingsRead
-use Rattle.ahrs.specs.declared.read.QuaternionRead as quaternionRead
-use Rattle.ahrs.specs.declared.read.VectorRead as vectorRead
-use Rattle.ahrs.specs.declared.read.FlagsRead as flagsRead
-use Rattle.ahrs.specs.declared.read.StatesRead as statesRead
-use Rattle.ahrs.specs.declared.read.IgnoredRead as ignoredRead
+use Rattle.ahrs.specs.declared.read.Flags.{Flags}
+use Rattle.ahrs.specs.declared.read.InternalStates.{InternalStates}
+use Rattle.ahrs.specs.declared.read.IgnoredCounts.{IgnoredCounts}
 use Rattle.ahrs.specs.Read.{gravity_of, linear_of, earth_of, flags_of, states_of, ignored_of}
 use Rattle.ahrs.specs.Calls.{state_checks, vector_checks}
-use Rattle.vector.specs.declared.Vector.{Vector}
 
 pub data Look : Type 0 where
   settings : Look
@@ -24,26 +27,23 @@ pub data Look : Type 0 where
 
 -- what a reading call gives
 pub data Shown : Type 0 where
-  settings_read : settingsRead.SettingsRead → Shown
-  quaternion_read : quaternionRead.QuaternionRead → Shown
-  vector_read : vectorRead.VectorRead → Shown
-  flags_read : flagsRead.FlagsRead → Shown
-  states_read : statesRead.StatesRead → Shown
-  ignored_read : ignoredRead.IgnoredRead → Shown
+  settings_read : Result Settings Refusal → Shown
+  quaternion_read : Result Quaternion Refusal → Shown
+  vector_read : Result Vector Refusal → Shown
+  flags_read : Result Flags Refusal → Shown
+  states_read : Result InternalStates Refusal → Shown
+  ignored_read : Result IgnoredCounts Refusal → Shown
 
--- the answer, or the refusal that the checks give
-abbrev answered_of : {A : Type 0} → (ℕ → A) → List Check → A → A
-answered_of refused cs a = accepted (refusal_of cs) a (refused (refusal_of cs))
-
-abbrev vector_of : Ahrs → Vector → Shown
-vector_of s v = vector_read (answered_of vectorRead.TheVariants.Refused (vector_checks s v) (vectorRead.TheVariants.Read v))
+-- what is read, or the refusal that the checks give
+abbrev result_of : {A : Type 0} → List Check → A → Result A Refusal
+result_of cs a = accepted (refusal_of cs) (Ok a) (Err (refusal_at (refusal_of cs)))
 
 abbrev pub shown_of : Ahrs → Look → Shown
-shown_of s settings = settings_read (answered_of settingsRead.TheVariants.Refused (state_checks s) (settingsRead.TheVariants.Read s.settings))
-shown_of s quaternion = quaternion_read (answered_of quaternionRead.TheVariants.Refused (state_checks s) (quaternionRead.TheVariants.Read s.quaternion))
-shown_of s gravity = vector_of s (gravity_of s)
-shown_of s linear_acceleration = vector_of s (linear_of s)
-shown_of s earth_acceleration = vector_of s (earth_of s)
-shown_of s flags = flags_read (answered_of flagsRead.TheVariants.Refused (state_checks s) (flagsRead.TheVariants.Read (flags_of s)))
-shown_of s internal_states = states_read (answered_of statesRead.TheVariants.Refused (state_checks s) (statesRead.TheVariants.Read (states_of s)))
-shown_of s ignored_counts = ignored_read (answered_of ignoredRead.TheVariants.Refused (state_checks s) (ignoredRead.TheVariants.Read (ignored_of s)))
+shown_of s settings = settings_read (result_of (state_checks s) s.settings)
+shown_of s quaternion = quaternion_read (result_of (state_checks s) s.quaternion)
+shown_of s gravity = vector_read (result_of (vector_checks s (gravity_of s)) (gravity_of s))
+shown_of s linear_acceleration = vector_read (result_of (vector_checks s (linear_of s)) (linear_of s))
+shown_of s earth_acceleration = vector_read (result_of (vector_checks s (earth_of s)) (earth_of s))
+shown_of s flags = flags_read (result_of (state_checks s) (flags_of s))
+shown_of s internal_states = states_read (result_of (state_checks s) (states_of s))
+shown_of s ignored_counts = ignored_read (result_of (state_checks s) (ignored_of s))

@@ -9,9 +9,8 @@ use Rattle.reached.specs.Runs.{Call, outline_of}
 use Rattle.reached.specs.Reached.{Sound}
 use Rattle.table.specs.declared.Table.{Table}
 use Rattle.table.specs.declared.foot.Side.{Side}
-use Rattle.table.specs.declared.foot.Side.TheVariants.{First, Second}
 use Rattle.table.specs.Calls.{row_of}
-use Rattle.table.specs.Sides.{party_of}
+use Rattle.table.specs.Sides.{other, party_of}
 use Rattle.apart.specs.Turns.{Standing, fresh_of, Act, Turn, after_of, end_of}
 
 -- ---- the row in use
@@ -19,10 +18,6 @@ use Rattle.apart.specs.Turns.{Standing, fresh_of, Act, Turn, after_of, end_of}
 -- from the start on, no row in use is above 7
 abbrev pub StaysInTable : Type 0
 StaysInTable = (s s' : Settings) (t : Table) (us : List Turn) (p : Side) → (party_of p (end_of (fresh_of s s' t) us).foot).row ≤ 7
-
-abbrev pub other : Side → Side
-other First = Second
-other Second = First
 
 -- whatever the other does at its turn, the row that p uses holds what it held
 abbrev pub HoldsStill : Type 0

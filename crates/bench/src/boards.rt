@@ -1,9 +1,10 @@
 // Two boards and one table: a party by value, told what a row holds and which row the other uses; then both, and the table of their owner.
-use super::{bits, count, filter, say};
+use super::filter;
+use super::show::Bits;
 use ahrs::{Limit, Settings};
-use table::{
-    Foot, Owned, Party, Settled, Side, Started, Stood, Table, choose_owned, rewrite_owned,
-};
+use answer::Change;
+use std::io;
+use table::{Foot, Owned, Party, Side, Table, choose_owned, rewrite_owned};
 
 fn of_gain(gain: f32) -> Settings {
     filter::settings(100.0, gain, 5.0)
@@ -15,180 +16,170 @@ fn not_finite() -> Settings {
 }
 
 fn unknown() -> Settings {
-    let mut settings = of_gain(0.75);
-    settings.convention = 3;
-    settings
+    Settings {
+        convention: 3,
+        ..of_gain(0.75)
+    }
 }
 
 // A row whose limits are angles.
 fn in_degrees(angle: f32) -> Settings {
-    let limit = Limit::Degrees(angle);
     Settings {
-        sample_rate: 100.0,
-        convention: 0,
-        gain: 1.0,
-        gyroscope_range: 2000.0,
-        acceleration_rejection: limit,
-        magnetic_rejection: limit,
-        rejection_timeout: 5.0,
+        acceleration_rejection: Limit::Degrees(angle),
+        magnetic_rejection: Limit::Degrees(angle),
+        ..of_gain(1.0)
     }
 }
 
-fn print_party(party: Party) {
-    say(b": row ");
-    count(party.row as u64);
-    say(b", gain");
-    let state = party.filter;
-    let settings = state.settings;
-    bits(settings.gain);
+fn gain_of(party: Party) -> Bits {
+    Bits(party.filter.settings.gain)
 }
 
-fn print_settled(name: &[u8], settled: Settled) {
-    say(name);
-    say(b", answer ");
-    count(settled.number as u64);
-    print_party(settled.party);
-    say(b"\n");
+fn print_settled(rt: &HostRuntime, name: &str, settled: Change<Party>) -> io::Result<()> {
+    let number = answer::number_in(settled.result);
+    let party = settled.state;
+    println!(rt;
+        "{name}, answer {number}: row {}, gain{}",
+        party.row,
+        gain_of(party)
+    )
 }
 
 // The other uses row 1, which may be chosen too; where a choice is refused the old row stays in use.
-fn print_own(first: Party) {
-    print_settled(b"row 8 chosen", first.choose(8, of_gain(0.25)));
-    print_settled(b"a row with a NaN chosen", first.choose(2, not_finite()));
-    print_settled(b"row 1 chosen", first.choose(1, of_gain(0.25)));
+fn print_own(rt: &HostRuntime, first: Party) -> io::Result<()> {
+    print_settled(rt, "row 8 chosen", first.choose(8, of_gain(0.25)))?;
+    print_settled(rt, "a row with a NaN chosen", first.choose(2, not_finite()))?;
+    print_settled(rt, "row 1 chosen", first.choose(1, of_gain(0.25)))?;
     print_settled(
-        b"a row of 10 degrees chosen",
+        rt,
+        "a row of 10 degrees chosen",
         first.choose(2, in_degrees(10.0)),
-    );
+    )?;
     print_settled(
-        b"a row of 91 degrees chosen",
+        rt,
+        "a row of 91 degrees chosen",
         first.choose(2, in_degrees(91.0)),
-    );
-    print_settled(b"row 0 rewritten", first.rewrite(1, of_gain(0.75)));
+    )?;
+    print_settled(rt, "row 0 rewritten", first.rewrite(1, of_gain(0.75)))?;
     print_settled(
-        b"row 0 rewritten with a NaN",
+        rt,
+        "row 0 rewritten with a NaN",
         first.rewrite(1, not_finite()),
-    );
+    )
 }
 
 // 4 comes before 10, and 10 before 5.
-fn print_shared(party: Party) {
+fn print_shared(rt: &HostRuntime, party: Party) -> io::Result<()> {
     let row = party.row;
-    print_settled(b"a shared row rewritten", party.rewrite(row, of_gain(0.75)));
-    print_settled(
-        b"a shared row rewritten with a NaN",
-        party.rewrite(row, not_finite()),
-    );
-    print_settled(
-        b"a shared row rewritten with convention 3",
-        party.rewrite(row, unknown()),
-    );
-    let mut state = party.filter;
-    state.settings = unknown();
-    print_settled(
-        b"a shared row rewritten from convention 3",
-        Party { filter: state, row }.rewrite(row, of_gain(0.75)),
-    );
+    let given = of_gain(0.75);
+    print_settled(rt, "a shared row rewritten", party.rewrite(row, given))?;
+    let refused = party.rewrite(row, not_finite());
+    print_settled(rt, "a shared row rewritten with a NaN", refused)?;
+    let refused = party.rewrite(row, unknown());
+    print_settled(rt, "a shared row rewritten with convention 3", refused)?;
+    let mut filter = party.filter;
+    filter.settings = unknown();
+    let refused = Party { filter, row }.rewrite(row, given);
+    print_settled(rt, "a shared row rewritten from convention 3", refused)
 }
 
 // No call leads to a row above 7, but a party may be handed in so.
-fn print_outside(party: Party) {
-    let state = party.filter;
+fn print_outside(rt: &HostRuntime, party: Party) -> io::Result<()> {
     let outside = Party {
-        filter: state,
+        filter: party.filter,
         row: 8,
     };
+    let given = of_gain(0.75);
     print_settled(
-        b"row 8 in use and shared, rewritten",
-        outside.rewrite(8, of_gain(0.75)),
-    );
-    print_settled(
-        b"row 8 in use, row 0 chosen",
-        outside.choose(0, of_gain(0.75)),
-    );
+        rt,
+        "row 8 in use and shared, rewritten",
+        outside.rewrite(8, given),
+    )?;
+    print_settled(rt, "row 8 in use, row 0 chosen", outside.choose(0, given))
 }
 
 // What the table has in the row that a party then uses.
-fn print_stood(name: &[u8], side: Side, stood: Stood, table: Table) {
-    say(name);
-    say(b", answer ");
-    count(stood.number as u64);
-    let foot = stood.foot;
-    let party = foot.party(side);
-    print_party(party);
-    say(b", the table has");
+fn print_stood(
+    rt: &HostRuntime,
+    name: &str,
+    side: Side,
+    stood: Change<Foot>,
+    table: Table,
+) -> io::Result<()> {
+    let number = answer::number_in(stood.result);
+    let party = stood.state.party(side);
     let row = party.row;
-    let at = (row % 8) as usize;
-    let settings = table.rows[at];
-    bits(settings.gain);
-    say(b"\n");
+    let has = Bits(table.rows[(row % 8) as usize].gain);
+    println!(rt;
+        "{name}, answer {number}: row {row}, gain{}, the table has{has}",
+        gain_of(party)
+    )
 }
 
-fn chosen(name: &[u8], table: Table, foot: Foot, side: Side, row: u8) -> Foot {
+fn chosen(
+    rt: &HostRuntime,
+    name: &str,
+    table: Table,
+    foot: Foot,
+    side: Side,
+    row: u8,
+) -> io::Result<Foot> {
     let stood = choose_owned(table, foot, side, row);
-    print_stood(name, side, stood, table);
-    stood.foot
+    print_stood(rt, name, side, stood, table)?;
+    Ok(stood.state)
 }
 
-fn rewritten(name: &[u8], table: Table, foot: Foot, side: Side, settings: Settings) -> Owned {
-    let own = rewrite_owned(table, foot, side, settings);
-    print_stood(name, side, own.stood, own.table);
-    own
+// The second's, of the row that it uses.
+fn rewritten(
+    rt: &HostRuntime,
+    name: &str,
+    table: Table,
+    foot: Foot,
+    settings: Settings,
+) -> io::Result<Owned> {
+    let own = rewrite_owned(table, foot, Side::Second, settings);
+    print_stood(rt, name, Side::Second, own.stood, own.table)?;
+    Ok(own)
 }
 
 // The first moves to the second's row and keeps it from being rewritten; the second moves on, and the first sees what it wrote.
-fn print_table(table: Table, foot: Foot) {
-    let both = chosen(b"first chooses row 1", table, foot, Side::First, 1);
+fn print_table(rt: &HostRuntime, table: Table, foot: Foot) -> io::Result<()> {
+    let both = chosen(rt, "first chooses row 1", table, foot, Side::First, 1)?;
     rewritten(
-        b"second rewrites row 1 with a NaN",
+        rt,
+        "second rewrites row 1 with a NaN",
         table,
         both,
-        Side::Second,
         not_finite(),
-    );
-    let apart = chosen(b"second chooses row 2", table, both, Side::Second, 2);
-    let own = rewritten(
-        b"second rewrites row 2",
-        table,
-        apart,
-        Side::Second,
-        of_gain(1.0),
-    );
-    let stood = own.stood;
+    )?;
+    let apart = chosen(rt, "second chooses row 2", table, both, Side::Second, 2)?;
+    let own = rewritten(rt, "second rewrites row 2", table, apart, of_gain(1.0))?;
+    let foot = own.stood.state;
     rewritten(
-        b"second rewrites row 2 with a NaN",
+        rt,
+        "second rewrites row 2 with a NaN",
         own.table,
-        stood.foot,
-        Side::Second,
+        foot,
         not_finite(),
-    );
-    chosen(
-        b"first chooses row 2",
-        own.table,
-        stood.foot,
-        Side::First,
-        2,
-    );
+    )?;
+    chosen(rt, "first chooses row 2", own.table, foot, Side::First, 2)?;
+    Ok(())
 }
 
 // The rows that no party has written hold a gain of 0.25, and row 1 one of 0.75.
-pub(crate) fn print() {
-    let Started::Fresh(first) = Party::first(of_gain(0.5)) else {
-        return;
+pub(crate) fn print(rt: &HostRuntime) -> io::Result<()> {
+    let Ok(first) = Party::first(of_gain(0.5)) else {
+        return Ok(());
     };
-    let Started::Fresh(second) = Party::second(of_gain(0.5)) else {
-        return;
+    let Ok(second) = Party::second(of_gain(0.5)) else {
+        return Ok(());
     };
-    say(b"first party");
-    print_party(first);
-    say(b"\nsecond party");
-    print_party(second);
-    say(b"\n");
-    print_own(first);
-    print_shared(first);
-    print_outside(first);
-    let filled = of_gain(0.25);
-    let mut rows = [filled; 8];
+    println!(rt; "first party: row {}, gain{}", first.row, gain_of(first))?;
+    println!(rt; "second party: row {}, gain{}", second.row, gain_of(second))?;
+    print_own(rt, first)?;
+    print_shared(rt, first)?;
+    print_outside(rt, first)?;
+    let mut rows = [of_gain(0.25); 8];
     rows[1] = of_gain(0.75);
-    print_table(Table { rows }, Foot { first, second });
+    print_table(rt, Table { rows }, Foot { first, second })
 }

@@ -1,24 +1,18 @@
 // The bench table's rows of the filter that are run, each a short story told by calls of the filter.
-use ahrs::read::{Flags, FlagsRead, InternalStates, StatesRead};
-use ahrs::{Ahrs, Axes, Change, Limit, Settings, Started};
+use ahrs::read::{Flags, InternalStates};
+use ahrs::{Ahrs, Axes, Limit, Settings};
+use answer::Change;
 use math::Quaternion;
 use vector::Vector;
 
-// A filter, or nothing where its settings are refused.
-#[derive(Clone, Copy)]
-pub(crate) enum Beginning {
-    At(Ahrs),
-    Never,
-}
-
-#[derive(Clone, Copy)]
+#[derive(Clone, Copy, Debug, PartialEq, Eq)]
 pub(crate) enum Sensor {
     Accelerometer,
     Compass,
 }
 
 // What is shown of a sensor's rejection: whether the last update ignored it, its recovery flag, and its trigger as a fraction of the timeout.
-#[derive(Clone, Copy)]
+#[derive(Clone, Copy, Debug)]
 pub(crate) struct Standing {
     pub ignored: bool,
     pub flag: bool,
@@ -28,56 +22,29 @@ pub(crate) struct Standing {
 // The squared limit of 10 degrees.
 const TEN_DEGREES: f32 = 0.0075384225;
 
-// A limit of acceleration, and a magnetic one of 10 degrees.
-fn limited(
-    acceleration_rejection: Limit,
-    sample_rate: f32,
-    gain: f32,
-    rejection_timeout: f32,
-) -> Settings {
+// Limits of 10 degrees.
+pub(crate) fn settings(sample_rate: f32, gain: f32, rejection_timeout: f32) -> Settings {
     Settings {
         sample_rate,
         convention: 0,
         gain,
         gyroscope_range: 2000.0,
-        acceleration_rejection,
+        acceleration_rejection: Limit::Squared(TEN_DEGREES),
         magnetic_rejection: Limit::Squared(TEN_DEGREES),
         rejection_timeout,
     }
 }
 
-// Limits of 10 degrees.
-pub(crate) fn settings(sample_rate: f32, gain: f32, rejection_timeout: f32) -> Settings {
-    limited(
-        Limit::Squared(TEN_DEGREES),
-        sample_rate,
-        gain,
-        rejection_timeout,
-    )
-}
-
-pub(crate) fn begin(settings: Settings) -> Beginning {
-    match Ahrs::with_settings(settings) {
-        Started::Fresh(fresh) => Beginning::At(fresh),
-        Started::Refused(_) => Beginning::Never,
-    }
-}
-
 // An update of a pole that stands still.
 fn still(state: Ahrs, accelerometer: Vector, magnetometer: Vector) -> Ahrs {
-    let reading = state.update(Vector::ZERO, accelerometer, magnetometer);
-    reading.state
+    state
+        .update(Vector::ZERO, accelerometer, magnetometer)
+        .state
 }
 
 // The state after some such updates.
 pub(crate) fn held(state: Ahrs, accelerometer: Vector, magnetometer: Vector, updates: u32) -> Ahrs {
-    let mut now = state;
-    let mut n = 0;
-    while n < updates {
-        now = still(now, accelerometer, magnetometer);
-        n += 1;
-    }
-    now
+    (0..updates).fold(state, |now, _| still(now, accelerometer, magnetometer))
 }
 
 // The accelerometer reads (x, 0, z), and the magnetometer nothing.
@@ -86,43 +53,33 @@ pub(crate) fn after(state: Ahrs, x: f32, z: f32, updates: u32) -> Ahrs {
 }
 
 fn flags(state: Ahrs) -> Flags {
-    match state.flags() {
-        FlagsRead::Read(flags) => flags,
-        FlagsRead::Refused(_) => Flags {
-            startup: false,
-            overrange_recovery: Axes::NONE,
-            acceleration_recovery: false,
-            magnetic_recovery: false,
-        },
-    }
+    state.flags().unwrap_or(Flags {
+        startup: false,
+        overrange_recovery: Axes::NONE,
+        acceleration_recovery: false,
+        magnetic_recovery: false,
+    })
 }
 
 fn states(state: Ahrs) -> InternalStates {
-    match state.internal_states() {
-        StatesRead::Read(states) => states,
-        StatesRead::Refused(_) => InternalStates {
-            accelerometer_ignored: false,
-            acceleration_recovery_trigger: 0.0,
-            magnetometer_ignored: false,
-            magnetic_recovery_trigger: 0.0,
-        },
-    }
-}
-
-fn in_startup(state: Ahrs) -> bool {
-    flags(state).startup
+    state.internal_states().unwrap_or(InternalStates {
+        accelerometer_ignored: false,
+        acceleration_recovery_trigger: 0.0,
+        magnetometer_ignored: false,
+        magnetic_recovery_trigger: 0.0,
+    })
 }
 
 // Whether startup goes on after some updates.
 pub(crate) fn stays_in_startup(settings: Settings, updates: u32) -> bool {
-    match begin(settings) {
-        Beginning::At(fresh) => in_startup(after(fresh, 0.0, 1.0, updates)),
-        Beginning::Never => false,
+    match Ahrs::with_settings(settings) {
+        Ok(fresh) => flags(after(fresh, 0.0, 1.0, updates)).startup,
+        Err(_) => false,
     }
 }
 
 // The half residual of the first update out of startup, and whether the accelerometer was ignored.
-#[derive(Clone, Copy)]
+#[derive(Clone, Copy, Debug)]
 pub(crate) struct Verdict {
     pub residual: Vector,
     pub ignored: bool,
@@ -130,35 +87,32 @@ pub(crate) struct Verdict {
 
 // Judges an accelerometer reading of (x, 0, z) by a squared limit.
 pub(crate) fn judged(x: f32, z: f32, limit: f32) -> Verdict {
-    match begin(limited(Limit::Squared(limit), 10.0, 0.5, 1.0)) {
-        Beginning::At(fresh) => {
-            let skipped = fresh.skip_startup();
-            let state = after(skipped.state, x, z, 1);
-            let acceleration = state.acceleration;
-            let residual = acceleration.half_residual;
-            Verdict {
-                residual,
-                ignored: acceleration.ignored,
-            }
-        }
-        Beginning::Never => {
-            let residual = Vector::ZERO;
-            Verdict {
-                residual,
-                ignored: false,
-            }
-        }
+    let given = Settings {
+        acceleration_rejection: Limit::Squared(limit),
+        ..settings(10.0, 0.5, 1.0)
+    };
+    let Ok(fresh) = Ahrs::with_settings(given) else {
+        return Verdict {
+            residual: Vector::ZERO,
+            ignored: false,
+        };
+    };
+    let acceleration = after(fresh.skip_startup().state, x, z, 1).acceleration;
+    Verdict {
+        residual: acceleration.half_residual,
+        ignored: acceleration.ignored,
     }
 }
 
 // An update of an upright pole that turns at these rates, in degrees a second.
 pub(crate) fn turned(state: Ahrs, x: f32, y: f32, z: f32) -> Ahrs {
-    let reading = state.update(
-        Vector::new(x, y, z),
-        Vector::new(0.0, 0.0, 1.0),
-        Vector::ZERO,
-    );
-    reading.state
+    state
+        .update(
+            Vector::new(x, y, z),
+            Vector::new(0.0, 0.0, 1.0),
+            Vector::ZERO,
+        )
+        .state
 }
 
 // The axes that the flags show.
@@ -185,29 +139,31 @@ pub(crate) fn shown(state: Ahrs, sensor: Sensor) -> Standing {
 
 // T = 10 and five readings over the limit, so that the trigger is 5; then T = 3.
 pub(crate) fn lowered(fresh: Ahrs) -> Ahrs {
-    let skipped = fresh.skip_startup();
-    let state = after(skipped.state, 1.0, 0.0, 5);
-    let change = state.set_settings(settings(10.0, 0.5, 0.3));
-    change.state
+    after(fresh.skip_startup().state, 1.0, 0.0, 5)
+        .set_settings(settings(10.0, 0.5, 0.3))
+        .state
 }
 
-// An update, its gyroscope reading (x, 0, 0): the state after it, and the number that it answers.
-pub(crate) fn read(state: Ahrs, x: f32, accelerometer: Vector, magnetometer: Vector) -> Change {
+// An update, its gyroscope reading (x, 0, 0): the state after it, and whether it is refused.
+pub(crate) fn read(
+    state: Ahrs,
+    x: f32,
+    accelerometer: Vector,
+    magnetometer: Vector,
+) -> Change<Ahrs> {
     let reading = state.update(Vector::new(x, 0.0, 0.0), accelerometer, magnetometer);
-    let answer = reading.answer;
-    let state = reading.state;
     Change {
-        state,
-        number: answer.number(),
+        state: reading.state,
+        result: reading.answer.check(),
     }
 }
 
 // A quaternion (w, x, 0, 0) set.
-pub(crate) fn set(fresh: Ahrs, w: f32, x: f32) -> Change {
+pub(crate) fn set(fresh: Ahrs, w: f32, x: f32) -> Change<Ahrs> {
     fresh.set_quaternion(Quaternion::new(w, x, 0.0, 0.0))
 }
 
 // An update of a pole that stands upright.
-pub(crate) fn upright(state: Ahrs) -> Change {
+pub(crate) fn upright(state: Ahrs) -> Change<Ahrs> {
     read(state, 0.0, Vector::new(0.0, 0.0, 1.0), Vector::ZERO)
 }

@@ -1,5 +1,6 @@
 // A sensor that is locked out and comes back, T = 500 at 100 Hz: readings over its limit until recovery has begun, and good ones until it has ended.
 use super::filter::{Sensor, held, shown};
+use super::until::until;
 use ahrs::Ahrs;
 use vector::Vector;
 
@@ -33,14 +34,10 @@ pub(crate) fn run(start: Ahrs, accelerometer: Vector, magnetometer: Vector) -> S
 
 // How many readings more it takes a compass that stays as it is to be out of recovery: the filter turns to it.
 pub(crate) fn lasts(begun: Ahrs, accelerometer: Vector, magnetometer: Vector) -> u32 {
-    let mut state = begun;
-    let mut n = 0;
-    while n < MOST {
-        if !shown(state, Sensor::Compass).flag {
-            return n;
-        }
-        state = held(state, accelerometer, magnetometer, 1);
-        n += 1;
-    }
-    MOST
+    until(
+        begun,
+        MOST,
+        |state| held(state, accelerometer, magnetometer, 1),
+        |state| !shown(state, Sensor::Compass).flag,
+    )
 }

@@ -3,13 +3,9 @@
 ghost use Rattle.std.specs.Prelude.{◌≡◌, ◌≤◌};
 ghost use Rattle.bench.specs.Vectors.{right_of};
 
-// The descriptor of standard input.
-const STDIN: i32 = 0;
+use std::io::Read;
 
-// More vectors than this are not read.
-const MOST: u64 = 0xffff_ffff_ffff_ffff;
-
-#[derive(Clone, Copy)]
+#[derive(Clone, Copy, Debug)]
 pub struct Tally {
     pub read: u64,
     pub wrong: u64,
@@ -23,23 +19,20 @@ fn is_right(v: &[u8]) -> bool
 }
 
 // A last vector that is cut short is not counted.
-pub(crate) fn run() -> Tally
+pub(crate) fn run(rt: &HostRuntime) -> Tally
     ensures { result.wrong ≤ result.read }
 {
-    let mut read: u64 = 0;
-    let mut wrong: u64 = 0;
+    let mut tally = Tally { read: 0, wrong: 0 };
+    let mut input = rt.reader();
     let mut v = [0u8; 8];
-    while read < MOST {
-        if io::read_full(STDIN, &mut v) < 8 {
+    for read in 0..u64::MAX {
+        if input.read_exact(&mut v).is_err() {
             break;
         }
         if !is_right(&v) {
-            wrong += 1;
+            tally.wrong += 1;
         }
-        read += 1;
+        tally.read = read + 1;
     }
-    Tally {
-        read: read,
-        wrong: wrong,
-    }
+    tally
 }

@@ -1,49 +1,48 @@
 // The words of a buffer that a call lent, as it is afterwards. One of more than 64 words is not lent: its call is refused with 1.
+use super::said;
 use super::said::Said;
 use super::words::{MOST, Words};
+use answer::Refusal;
 
 // The bytes of the longest buffer.
-pub(crate) const BYTES: usize = 256;
+const BYTES: usize = 256;
 
 // Bytes packed four to a word, the last filled with zeros.
 fn packed(bytes: &[u8]) -> Words {
     let mut words = Words::none();
-    let mut i = 0;
-    while i < bytes.len() {
-        words = words.word(wire::bits_at(bytes, i));
-        i = if bytes.len() - i > 4 {
-            i + 4
-        } else {
-            bytes.len()
-        };
+    for chunk in bytes.chunks(4) {
+        words = words.with(wire::bits_at(chunk, 0));
     }
     words
 }
 
-// A part with its start written has a length that needs no proof.
-fn part(bytes: &[u8], n: usize) -> Words {
-    if n > bytes.len() {
-        return Words::none();
+// A buffer of n bytes, lent to what writes into it.
+pub(crate) fn bytes<F: FnOnce(&mut [u8]) -> Result<(), Refusal>>(n: usize, write: F) -> Said
+    requires { F.IsAlwaysCallable write }
+{
+    if n > BYTES {
+        return said::refused(Refusal::Length);
     }
-    packed(&bytes[0..n])
+    let mut buffer = [0x2Au8; 256];
+    let result = write(&mut buffer[..n]);
+    Said {
+        result,
+        words: packed(&buffer[..n]),
+    }
 }
 
-// The first n bytes of a buffer. It takes the array, so that who lent it before has nothing to prove of its length.
-pub(crate) fn bytes(number: u8, buffer: &[u8; 256], n: usize) -> Said {
-    let words = part(buffer, n);
-    Said { number, words }
-}
-
-// The first n floats of a buffer.
-pub(crate) fn floats(number: u8, buffer: &[f32; 64], n: usize) -> Said {
+// And one of n floats.
+pub(crate) fn floats<F: FnOnce(&mut [f32]) -> Result<(), Refusal>>(n: usize, write: F) -> Said
+    requires { F.IsAlwaysCallable write }
+{
+    if n > MOST {
+        return said::refused(Refusal::Length);
+    }
+    let mut buffer = [1.0f32; 64];
+    let result = write(&mut buffer[..n]);
     let mut words = Words::none();
-    let mut i = 0;
-    while i < MOST {
-        if i >= n {
-            return Said { number, words };
-        }
-        words = words.float(buffer[i]);
-        i += 1;
+    for x in &buffer[..n] {
+        words = words.with(*x);
     }
-    Said { number, words }
+    Said { result, words }
 }

@@ -2,38 +2,39 @@
 // answered: a record that is no call's, or cut short at the end, with `refused 1`.
 #![tactic(auto)]
 
-mod biases;
-mod feet;
-mod filters;
-mod lent;
-mod line;
-mod matrices;
-mod mountings;
-mod numbers;
-mod offsets;
-mod quaternions;
-mod record;
-mod said;
-mod states;
-mod vectors;
-mod words;
+mod biases; // biases.rt: the calls of the bias estimator
+mod feet; // feet.rt: the calls of two filters and one table
+mod filters; // filters.rt: the calls of the filter
+mod lent; // lent.rt: a buffer that a call lends
+mod line; // line.rt: the lines
+mod matrices; // matrices.rt: the calls of matrices
+mod mountings; // mountings.rt: the calls of mountings
+mod numbers; // numbers.rt: the calls of numbers
+mod offsets; // offsets.rt: the calls of the offset's records
+mod quaternions; // quaternions.rt: the calls of quaternions
+mod record; // record.rt: a call's record
+mod said; // said.rt: what a call says
+mod states; // states.rt: the states in words
+mod vectors; // vectors.rt: the calls of vectors
+mod words; // words.rt: the words of a line
 
-use biases::Estimator;
+use ahrs::Ahrs;
+use answer::Refusal;
+use bias::Bias;
 use feet::Feet;
-use filters::Filter;
-use line::{Lines, put_byte, put_number, put_state, put_words};
-use record::{RECORD, word_at};
+use line::Lines;
+use record::{Record, word_at};
 use said::Said;
 use std::io::{Error, Read};
 use std::process::ExitCode;
 use verdict::Verdict;
-use words::Words;
+use words::{Worded, Words};
 
-// The three states that calls change.
+// The three states that calls change; of the first two none before a start was accepted.
 #[derive(Clone, Copy)]
 struct Machine {
-    estimator: Estimator,
-    filter: Filter,
+    estimator: Option<Bias>,
+    filter: Option<Ahrs>,
     feet: Feet,
 }
 
@@ -42,260 +43,164 @@ struct Machine {
 struct Answered {
     machine: Machine,
     said: Said,
-    shown: Words,
+    shown: Option<Words>,
 }
 
-// The states after some calls, and the place behind their lines.
+// The states after some calls, and what the lines say of the run.
 #[derive(Clone, Copy)]
-struct Printed {
-    machine: Machine,
-    at: usize,
-}
-
-// The states after a block, what its lines and those before say of the run, and whether to read on; where a read or a write has
-// failed nothing more is printed, and the program ends with the status.
-#[derive(Clone, Copy)]
-struct Turn {
+struct Run {
     machine: Machine,
     verdict: Verdict,
-    more: bool,
-    failed: bool,
-    status: u8,
 }
 
 // The bytes of one read.
 const BLOCK: usize = 4096;
 
-// The descriptor of standard input.
+// The descriptor of standard input, which `io::read_full` asks for.
 const STDIN: i32 = 0;
 
-fn answer_bias(machine: Machine, call: u32, record: &[u8], quiet: bool) -> Answered {
-    let before = machine.estimator;
-    let filter = machine.filter;
-    let feet = machine.feet;
-    let answered = biases::answer(before, call, record);
-    let estimator = answered.estimator;
-    let said = answered.said;
-    let shown = if quiet {
-        Words::none()
-    } else {
-        biases::words(estimator)
-    };
+fn in_words<T: Worded>(value: T) -> Words {
+    Words::none().with(value)
+}
+
+fn answer_bias(machine: Machine, call: u32, record: &Record) -> Answered {
+    let told = biases::answer(machine.estimator, call, record);
     Answered {
         machine: Machine {
-            estimator,
-            filter,
-            feet,
+            estimator: told.state,
+            ..machine
         },
-        said,
-        shown,
+        said: told.said,
+        shown: told.state.map(in_words),
     }
 }
 
-fn answer_filter(machine: Machine, call: u32, record: &[u8], quiet: bool) -> Answered {
-    let estimator = machine.estimator;
-    let before = machine.filter;
-    let feet = machine.feet;
-    let answered = filters::answer(before, call, record);
-    let filter = answered.filter;
-    let said = answered.said;
-    let shown = if quiet {
-        Words::none()
-    } else {
-        filters::words(filter)
-    };
+fn answer_filter(machine: Machine, call: u32, record: &Record) -> Answered {
+    let told = filters::answer(machine.filter, call, record);
     Answered {
         machine: Machine {
-            estimator,
-            filter,
-            feet,
+            filter: told.state,
+            ..machine
         },
-        said,
-        shown,
+        said: told.said,
+        shown: told.state.map(in_words),
     }
 }
 
-fn answer_feet(machine: Machine, call: u32, record: &[u8], quiet: bool) -> Answered {
-    let estimator = machine.estimator;
-    let filter = machine.filter;
-    let before = machine.feet;
-    let answered = feet::answer(before, call, record);
-    let feet = answered.feet;
-    let said = answered.said;
-    let shown = if quiet {
-        Words::none()
-    } else {
-        feet::words(feet, call, record)
-    };
+fn answer_feet(machine: Machine, call: u32, record: &Record) -> Answered {
+    let told = feet::answer(machine.feet, call, record);
     Answered {
         machine: Machine {
-            estimator,
-            filter,
-            feet,
+            feet: told.state,
+            ..machine
         },
-        said,
-        shown,
+        said: told.said,
+        shown: feet::words(told.state, call, record),
     }
 }
 
 // What a call says that changes no state; a number that is no call's is refused with 1.
-fn said_plainly(call: u32, record: &[u8]) -> Said {
+fn said_plainly(call: u32, record: &Record) -> Said {
     match call {
         0x10..=0x1F => vectors::answer(call, record),
         0x20..=0x2F => matrices::answer(call, record),
         0x30..=0x3F => quaternions::answer(call, record),
         0x40..=0x4F => numbers::answer(call, record),
         0x50..=0x5F => mountings::answer(call, record),
-        _ => said::number(1),
+        _ => said::refused(Refusal::Length),
     }
 }
 
-fn answer(machine: Machine, record: &[u8]) -> Answered {
-    let word = word_at(record, 0);
-    let quiet = word / 0x100 == 1;
-    let call = if quiet { word % 0x100 } else { word };
+fn answer(machine: Machine, call: u32, record: &Record) -> Answered {
     match call {
-        0x60..=0x6C => answer_bias(machine, call, record, quiet),
-        0x80..=0x95 => answer_filter(machine, call, record, quiet),
-        0xA0..=0xA4 => answer_feet(machine, call, record, quiet),
+        0x60..=0x6C => answer_bias(machine, call, record),
+        0x80..=0x95 => answer_filter(machine, call, record),
+        0xA0..=0xA4 => answer_feet(machine, call, record),
         _ => Answered {
             machine,
             said: said_plainly(call, record),
-            shown: Words::none(),
+            shown: None,
         },
     }
 }
 
-fn print(answered: Answered, out: &mut Lines, at: usize) -> usize {
-    let said = answered.said;
-    let words = said.words;
-    let shown = answered.shown;
-    let at_words = put_number(out, at, said.number);
-    let at_state = put_words(out, at_words, words);
-    let at_end = put_state(out, at_state, shown);
-    put_byte(out, at_end, b'\n')
+// Of a call whose number has 0x100 more the state is not shown.
+fn print_answer(machine: Machine, record: &Record, out: &mut Lines) -> Machine {
+    let word = word_at(record, 0);
+    let quiet = word / 0x100 == 1;
+    let call = if quiet { word % 0x100 } else { word };
+    let answered = answer(machine, call, record);
+    let shown = if quiet { None } else { answered.shown };
+    out.put_line(answered.said.result, &answered.said.words, shown);
+    answered.machine
 }
 
-fn print_answer(machine: Machine, record: &[u8], out: &mut Lines, at: usize) -> Printed {
-    let answered = answer(machine, record);
-    let after = answered.machine;
-    Printed {
-        machine: after,
-        at: print(answered, out, at),
-    }
-}
-
-fn print_all(machine: Machine, block: &[u8], out: &mut Lines) -> Printed {
+fn print_all(machine: Machine, block: &[u8], out: &mut Lines) -> Machine {
     let mut machine = machine;
-    let mut at = 0;
-    let mut from = 0;
-    while block.len() - from >= RECORD {
-        let printed = print_answer(machine, &block[from..from + RECORD], out, at);
-        machine = printed.machine;
-        at = printed.at;
-        from += RECORD;
+    let (records, rest) = block.as_chunks();
+    for record in records {
+        machine = print_answer(machine, record, out);
     }
-    if from < block.len() {
-        let end = put_number(out, at, 1);
-        at = put_byte(out, end, b'\n');
+    if !rest.is_empty() {
+        out.put_line(Err(Refusal::Length), &Words::none(), None);
     }
-    Printed { machine, at }
+    machine
 }
 
-// Writes the first n bytes, and says what they say of the run.
-fn write_part(rt: &HostRuntime, lines: &[u8], n: usize, machine: Machine, before: Verdict) -> Turn {
-    let mut failure = Error::from_raw_os_error(0);
-    if n <= lines.len() {
-        match rt.write_all(&lines[0..n]) {
-            Ok(()) => {
-                let verdict = before.over(&lines[0..n]);
-                return Turn {
-                    machine,
-                    verdict,
-                    more: true,
-                    failed: false,
-                    status: 0,
-                };
-            }
-            Err(e) => failure = e,
-        }
-    }
-    Turn {
-        machine,
-        verdict: before,
-        more: false,
-        failed: true,
-        status: verdict::tell_failed(b"beside: standard output", failure),
-    }
+fn input_failed(error: Error) -> u8 {
+    verdict::tell_failed(b"beside: standard input", error)
 }
 
-// It takes the array, so that a caller that had it written has nothing to prove of its length.
-fn write(rt: &HostRuntime, lines: &Lines, n: usize, machine: Machine, before: Verdict) -> Turn {
-    write_part(rt, lines, n, machine, before)
+fn output_failed(error: Error) -> u8 {
+    verdict::tell_failed(b"beside: standard output", error)
 }
 
 // Whether the input has ended, which one more read tells from a read that failed.
-fn is_end(rt: &HostRuntime) -> Result<bool, Error> {
+fn check_end(rt: &HostRuntime) -> Result<(), Error> {
     let mut more = [0u8; 1];
-    let mut input = rt.stdin();
-    let got = input.read(&mut more)?;
-    Ok(got == 0)
+    if rt.stdin().read(&mut more)? == 0 {
+        return Ok(());
+    }
+    Err(Error::from_raw_os_error(0))
 }
 
-// Reads a block of records, and writes its lines. A block that is not full is the last.
-fn read_on(rt: &HostRuntime, machine: Machine, verdict: Verdict) -> Turn {
+// Reads a block of records, and writes its lines; nothing comes behind a block that is not full. Where a read or a write has failed, nothing
+// more is printed, and the program ends with the status in the `Err`.
+fn read_on(rt: &HostRuntime, run: &mut Run) -> Result<bool, u8> {
     let mut block = io::buffer();
     let n = io::read_full(STDIN, &mut block);
     if n < BLOCK {
-        let ended = match is_end(rt) {
-            Ok(true) => Ok(()),
-            Ok(false) => Err(Error::from_raw_os_error(0)),
-            Err(e) => Err(e),
-        };
-        if let Err(e) = ended {
-            return Turn {
-                machine,
-                verdict,
-                more: false,
-                failed: true,
-                status: verdict::tell_failed(b"beside: standard input", e),
-            };
+        check_end(rt).map_err(input_failed)?;
+    }
+    let mut out = Lines::none();
+    run.machine = print_all(run.machine, &block[..n], &mut out);
+    rt.write_all(out.as_slice()).map_err(output_failed)?;
+    run.verdict = run.verdict.over(out.as_slice());
+    Ok(n == BLOCK)
+}
+
+// Nothing says that an input ends, so the turns are counted, up to a number that no run uses up. At the end the first refusal is told in words.
+fn answer_all(rt: &HostRuntime) -> Result<(), u8> {
+    let mut run = Run {
+        machine: Machine {
+            estimator: None,
+            filter: None,
+            feet: Feet::none(),
+        },
+        verdict: Verdict::none(),
+    };
+    for _ in 0..u64::MAX {
+        if !read_on(rt, &mut run)? {
+            break;
         }
     }
-    let mut out = io::large_buffer();
-    let printed = print_all(machine, &block[..n], &mut out);
-    let machine = printed.machine;
-    let mut turn = write(rt, &out, printed.at, machine, verdict);
-    turn.more = turn.more & (n == BLOCK);
-    turn
+    run.verdict.tell(b"beside", b"call");
+    Ok(())
 }
 
-// The first refusal in words.
-fn finish(verdict: Verdict) {
-    verdict.tell(b"beside", b"call");
-}
-
-// Nothing says that an input ends, so the turns are counted down, from a number that no run uses up.
 fn main(rt: HostRuntime) -> ExitCode {
-    let mut machine = Machine {
-        estimator: Estimator::Never,
-        filter: Filter::Never,
-        feet: feet::none(),
-    };
-    let mut verdict = Verdict::none();
-    let mut failed = false;
-    let mut status = 0;
-    let mut turns = u64::MAX;
-    while turns > 0 {
-        let turn = read_on(&rt, machine, verdict);
-        machine = turn.machine;
-        verdict = turn.verdict;
-        failed = turn.failed;
-        status = turn.status;
-        turns = if turn.more { turns - 1 } else { 0 };
+    match answer_all(&rt) {
+        Ok(()) => ExitCode::SUCCESS,
+        Err(status) => ExitCode::from(status),
     }
-    if !failed {
-        finish(verdict);
-    }
-    ExitCode::from(status)
 }

@@ -6,22 +6,25 @@ use bias::BiasSettings;
 use math::{Matrix, Quaternion};
 use vector::Vector;
 
-// The bytes of a record.
-pub(crate) const RECORD: usize = 64;
+// A record's bytes. Which call it is for stands there as a number, and so do the calls where they are answered: the numbers are the script's,
+// and an enum would say each of them twice more.
+pub(crate) type Record = [u8; 64];
 
-pub(crate) fn word_at(record: &[u8], n: usize) -> u32
+// Word n. That n is below 16 is a clause here and where it is handed on: at nearly every call it is a number written out, for which a type is no
+// plainer.
+pub(crate) fn word_at(record: &Record, n: usize) -> u32
     requires { n < 16 }
 {
     wire::bits_at(record, 4 * n)
 }
 
-pub(crate) fn float_at(record: &[u8], n: usize) -> f32
+pub(crate) fn float_at(record: &Record, n: usize) -> f32
     requires { n < 16 }
 {
     wire::float_of(word_at(record, n))
 }
 
-pub(crate) fn vector_at(record: &[u8], n: usize) -> Vector
+pub(crate) fn vector_at(record: &Record, n: usize) -> Vector
     requires { n < 14 }
 {
     Vector::new(
@@ -31,7 +34,7 @@ pub(crate) fn vector_at(record: &[u8], n: usize) -> Vector
     )
 }
 
-pub(crate) fn quaternion_at(record: &[u8], n: usize) -> Quaternion
+pub(crate) fn quaternion_at(record: &Record, n: usize) -> Quaternion
     requires { n < 13 }
 {
     Quaternion::new(
@@ -43,7 +46,7 @@ pub(crate) fn quaternion_at(record: &[u8], n: usize) -> Quaternion
 }
 
 // The settings of the estimator, in the order of its start.
-pub(crate) fn bias_settings_at(record: &[u8], n: usize) -> BiasSettings
+pub(crate) fn bias_settings_at(record: &Record, n: usize) -> BiasSettings
     requires { n < 13 }
 {
     BiasSettings {
@@ -55,7 +58,7 @@ pub(crate) fn bias_settings_at(record: &[u8], n: usize) -> BiasSettings
 }
 
 // The matrix of words 1 to 9, by rows.
-pub(crate) fn matrix(record: &[u8]) -> Matrix {
+pub(crate) fn matrix(record: &Record) -> Matrix {
     Matrix {
         xx: float_at(record, 1),
         xy: float_at(record, 2),
@@ -70,28 +73,20 @@ pub(crate) fn matrix(record: &[u8]) -> Matrix {
 }
 
 // The number of a mounting or a convention. One that no byte holds is refused like 255.
-pub(crate) fn choice_at(record: &[u8], n: usize) -> u8
+pub(crate) fn choice_at(record: &Record, n: usize) -> u8
     requires { n < 16 }
 {
-    let word = word_at(record, n);
-    if word > 255 {
-        return 255;
-    }
-    word as u8
+    u8::try_from(word_at(record, n)).unwrap_or(u8::MAX)
 }
 
-// A signed number in two's complement. The sum does not saturate.
-pub(crate) fn whole_at(record: &[u8], n: usize) -> i32
+// A signed number in two's complement.
+pub(crate) fn whole_at(record: &Record, n: usize) -> i32
     requires { n < 16 }
 {
-    let word = word_at(record, n);
-    if word < 0x8000_0000 {
-        return word as i32;
-    }
-    number::saturating_add((word - 0x8000_0000) as i32, -2147483648)
+    i32::from_le_bytes(word_at(record, n).to_le_bytes())
 }
 
-pub(crate) fn length_at(record: &[u8], n: usize) -> usize
+pub(crate) fn length_at(record: &Record, n: usize) -> usize
     requires { n < 16 }
 {
     word_at(record, n) as usize

@@ -1,83 +1,99 @@
-// What a call says: a number of the refusal table, and the words of its answer.
-use super::words::Words;
-use alignment::MatrixRead;
-use answer::Answer;
-use math::{Matrix, Quaternion};
-use remap::MountingRead;
-use trig::Number;
+// What a call says: whether it is refused, and the words of its answer.
+use super::words::{Worded, Words};
+use answer::{Answer, Change, Reading, Refusal};
+use math::Quaternion;
 use vector::Vector;
 
-#[derive(Clone, Copy)]
+#[derive(Clone, Copy, Debug)]
 pub(crate) struct Said {
-    pub number: u8,
+    pub result: Result<(), Refusal>,
     pub words: Words,
 }
 
-// The number alone.
-pub(crate) fn number(number: u8) -> Said {
-    let words = Words::none();
-    Said { number, words }
+pub(crate) fn refused(refusal: Refusal) -> Said {
+    plain(Err(refusal))
 }
 
-// The answer of an accepted call.
-pub(crate) fn words(words: Words) -> Said {
-    Said { number: 0, words }
-}
-
-pub(crate) fn word(n: u32) -> Said {
-    words(Words::none().word(n))
-}
-
-pub(crate) fn float(x: f32) -> Said {
-    words(Words::none().float(x))
-}
-
-pub(crate) fn number_of(answer: Number) -> Said {
-    match answer {
-        Number::Value(x) => float(x),
-        Number::Refused(n) => number(n),
+// A result without words.
+pub(crate) fn plain(outcome: Result<(), Refusal>) -> Said {
+    Said {
+        result: outcome,
+        words: Words::none(),
     }
 }
 
-pub(crate) fn flag(flag: bool) -> Said {
-    words(Words::none().flag(flag))
+// The answer of a call that refuses nothing.
+pub(crate) fn of<T: Worded>(value: T) -> Said {
+    Said {
+        result: Ok(()),
+        words: Words::none().with(value),
+    }
 }
 
-pub(crate) fn whole(n: i32) -> Said {
-    words(Words::none().whole(n))
-}
-
-pub(crate) fn vector(v: Vector) -> Said {
-    words(Words::none().vector(v))
-}
-
-pub(crate) fn quaternion(q: Quaternion) -> Said {
-    words(Words::none().quaternion(q))
-}
-
-pub(crate) fn matrix(m: Matrix) -> Said {
-    words(Words::none().matrix(m))
-}
-
-pub(crate) fn matrix_read(read: MatrixRead) -> Said {
+// What a read gives.
+pub(crate) fn read<T: Worded>(read: Result<T, Refusal>) -> Said {
     match read {
-        MatrixRead::Read(m) => matrix(m),
-        MatrixRead::Refused(n) => number(n),
-    }
-}
-
-pub(crate) fn mounting(mounting: MountingRead) -> Said {
-    match mounting {
-        MountingRead::Number(n) => word(n as u32),
-        MountingRead::Refused(n) => number(n),
+        Ok(value) => of(value),
+        Err(refusal) => refused(refusal),
     }
 }
 
 pub(crate) fn answer(answer: Answer) -> Said {
     match answer {
-        Answer::Rates(x, y, z) => vector(Vector::new(x, y, z)),
-        Answer::Turned(x, y, z) => vector(Vector::new(x, y, z)),
-        Answer::Oriented(w, x, y, z) => quaternion(Quaternion::new(w, x, y, z)),
-        Answer::Refused(n) => number(n),
+        Answer::Rates(x, y, z) => of(Vector::new(x, y, z)),
+        Answer::Turned(x, y, z) => of(Vector::new(x, y, z)),
+        Answer::Oriented(w, x, y, z) => of(Quaternion::new(w, x, y, z)),
+        Answer::Refused(refusal) => refused(refusal),
+    }
+}
+
+// The state after a call, and what the call says.
+#[derive(Clone, Copy)]
+pub(crate) struct Told<S> {
+    pub state: S,
+    pub said: Said,
+}
+
+pub(crate) fn changed<S>(change: Change<S>) -> Told<S> {
+    Told {
+        state: change.state,
+        said: plain(change.result),
+    }
+}
+
+pub(crate) fn answered<S>(reading: Reading<S>) -> Told<S> {
+    Told {
+        state: reading.state,
+        said: answer(reading.answer),
+    }
+}
+
+// A start; one that is refused leaves the state that was, where there was one.
+pub(crate) fn started<S: Copy>(before: Option<S>, start: Result<S, Refusal>) -> Told<Option<S>> {
+    match start {
+        Ok(fresh) => Told {
+            state: Some(fresh),
+            said: plain(Ok(())),
+        },
+        Err(refusal) => Told {
+            state: before,
+            said: refused(refusal),
+        },
+    }
+}
+
+// The same state where there may be none.
+pub(crate) fn begun<S: Copy>(told: Told<S>) -> Told<Option<S>> {
+    Told {
+        state: Some(told.state),
+        said: told.said,
+    }
+}
+
+// Before a start was accepted every other call is refused with 1.
+pub(crate) fn not_begun<S>() -> Told<Option<S>> {
+    Told {
+        state: None,
+        said: refused(Refusal::Length),
     }
 }

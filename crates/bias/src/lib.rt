@@ -3,13 +3,14 @@
 
 ghost use Rattle.std.specs.Prelude.{◌≡◌};
 ghost use Rattle.answer.specs.Refusals.{refusal_of};
+ghost use Rattle.answer.specs.Rows.{number_in};
 ghost use Rattle.bias.specs.Settings.{finite_settings};
 ghost use Rattle.bias.specs.Estimator.{finite_bias, advanced_of};
 ghost use Rattle.bias.specs.Calls.{settings_checks, reading_checks, offset_checks, state_checks, change_checks};
 ghost use Rattle.bias.specs.Calls.{Starts, Reads, SetsOffset, Restarts, SetsSettings};
 ghost use Rattle.bias.specs.Inner.{Derives, Advances, all_finite};
 
-use answer::Answer;
+use answer::{Answer, Change, Reading, Refusal};
 use vector::Vector;
 
 pub mod lent; // lent.rt: update_lent
@@ -17,7 +18,7 @@ pub mod reads; // reads.rt: settings, offset, is_active
 
 pub use lent::update_lent;
 
-#[derive(Clone, Copy)]
+#[derive(Clone, Copy, Debug, PartialEq)]
 pub struct BiasSettings {
     pub sample_rate: f32,
     pub stationary_threshold: f32,
@@ -25,7 +26,7 @@ pub struct BiasSettings {
     pub cutoff_frequency: f32,
 }
 
-#[derive(Clone, Copy)]
+#[derive(Clone, Copy, Debug, PartialEq)]
 pub struct Bias {
     pub settings: BiasSettings,
     pub filter_coefficient: f32,
@@ -34,37 +35,17 @@ pub struct Bias {
     pub offset: Vector,
 }
 
-// A start: the fresh estimator, or a refusal's number.
-#[derive(Clone, Copy)]
-pub enum Started {
-    Fresh(Bias),
-    Refused(u8),
-}
-
-// A reading: the state, and the corrected rates or a refusal.
-#[derive(Clone, Copy)]
-pub struct Reading {
-    pub state: Bias,
-    pub answer: Answer,
-}
-
-// A call that only changes the state: the state, and 0 or a refusal's number.
-#[derive(Clone, Copy)]
-pub struct Change {
-    pub state: Bias,
-    pub number: u8,
-}
-
 // What is worked out from the settings.
-#[derive(Clone, Copy)]
-pub struct Derived {
-    pub filter_coefficient: f32,
-    pub timeout: u32,
+#[derive(Clone, Copy, Debug)]
+struct Derived {
+    filter_coefficient: f32,
+    timeout: u32,
 }
 
 const PI: f32 = 3.1415927;
 
 impl BiasSettings {
+    #[tactic(auto, unfolding(crate::specs::Settings::finite_settings))]
     pub fn is_finite(self) -> bool
         ensures { result ≡ finite_settings self }
     {
@@ -74,6 +55,7 @@ impl BiasSettings {
             & number::is_finite(self.cutoff_frequency)
     }
 
+    #[tactic(auto, unfolding(crate::specs::Settings::coefficient_of, crate::specs::Settings::timeout_of))]
     fn derived(self) -> Derived
         ensures { Derives self result }
     {
@@ -83,99 +65,95 @@ impl BiasSettings {
         }
     }
 
-    // The number of the settings' checks: 5, 6 or 7, or 0 where an estimator starts with them.
-    pub fn refusal(self) -> u8
-        ensures { result ≡ refusal_of (settings_checks self) }
+    // Whether an estimator starts with these settings.
+    #[tactic(auto, unfolding(answer::specs::Refusals::refusal_of))]
+    pub fn check(self) -> Result<(), Refusal>
+        ensures { number_in result ≡ refusal_of (settings_checks self) }
     {
         if !self.is_finite() {
-            return 5;
+            return Err(Refusal::NotFinite);
         }
         if !(self.sample_rate > 0.0) {
-            return 6;
+            return Err(Refusal::OutOfRange);
         }
-        let derived = self.derived();
-        if !number::is_finite(derived.filter_coefficient) {
-            return 7;
+        if !number::is_finite(self.derived().filter_coefficient) {
+            return Err(Refusal::Overflow);
         }
-        0
+        Ok(())
     }
 }
 
 impl Bias {
-    pub fn with_settings(settings: BiasSettings) -> Started
+    pub fn with_settings(settings: BiasSettings) -> Result<Bias, Refusal>
         ensures { Starts settings result }
     {
-        let number = settings.refusal();
-        if number != 0 {
-            return Started::Refused(number);
-        }
+        settings.check()?;
         let derived = settings.derived();
-        let offset = Vector::ZERO;
-        Started::Fresh(Bias {
+        Ok(Bias {
             settings,
             filter_coefficient: derived.filter_coefficient,
             timeout: derived.timeout,
             timer: 0,
-            offset,
+            offset: Vector::ZERO,
         })
     }
 
-    // The number of a settings change's checks: the state's 5 before the settings' own.
-    fn change_refusal(self, settings: BiasSettings) -> u8
-        ensures { result ≡ refusal_of (change_checks self settings) }
+    // A settings change's checks: the state's before the settings' own.
+    #[tactic(auto, unfolding(answer::specs::Refusals::refusal_of))]
+    fn check_change(self, settings: BiasSettings) -> Result<(), Refusal>
+        ensures { number_in result ≡ refusal_of (change_checks self settings) }
     {
         if !self.is_finite() {
-            return 5;
+            return Err(Refusal::NotFinite);
         }
-        settings.refusal()
+        settings.check()
     }
 
     // Other settings; timer and offset are kept.
-    pub fn set_settings(self, settings: BiasSettings) -> Change
+    pub fn set_settings(self, settings: BiasSettings) -> Change<Bias>
         ensures { SetsSettings self settings result }
     {
-        let number = self.change_refusal(settings);
-        if number != 0 {
-            return Change {
-                state: self,
-                number,
-            };
+        if let Err(refusal) = self.check_change(settings) {
+            return Change::refused(self, refusal);
         }
         let derived = settings.derived();
-        let mut state = self;
-        state.settings = settings;
-        state.filter_coefficient = derived.filter_coefficient;
-        state.timeout = derived.timeout;
-        Change { state, number: 0 }
+        Change::made(Bias {
+            settings,
+            filter_coefficient: derived.filter_coefficient,
+            timeout: derived.timeout,
+            ..self
+        })
     }
 
     // Whether no float of the state is a NaN or an infinity.
+    #[tactic(auto, unfolding(crate::specs::Estimator::finite_bias))]
     pub fn is_finite(self) -> bool
         ensures { result ≡ finite_bias self }
     {
-        let settings = self.settings;
-        let offset = self.offset;
-        settings.is_finite() & number::is_finite(self.filter_coefficient) & offset.is_finite()
+        self.settings.is_finite()
+            & number::is_finite(self.filter_coefficient)
+            & self.offset.is_finite()
     }
 
-    // The number of the state's own check.
-    fn refusal(self) -> u8
-        ensures { result ≡ refusal_of (state_checks self) }
+    // The state's own check.
+    #[tactic(auto, unfolding(answer::specs::Refusals::refusal_of))]
+    fn check(self) -> Result<(), Refusal>
+        ensures { number_in result ≡ refusal_of (state_checks self) }
     {
         if !self.is_finite() {
-            return 5;
+            return Err(Refusal::NotFinite);
         }
-        0
+        Ok(())
     }
 
     // The state after a reading whose corrected value is `corrected`.
+    #[tactic(auto, unfolding(crate::specs::Estimator::advanced_of))]
     fn advanced(self, corrected: Vector) -> Bias
         ensures { result ≡ advanced_of self corrected }
     {
-        let settings = self.settings;
         let timer = self.timer;
         let mut next = self;
-        if corrected.exceeds(settings.stationary_threshold) {
+        if corrected.exceeds(self.settings.stationary_threshold) {
             next.timer = 0;
             return next;
         }
@@ -183,8 +161,7 @@ impl Bias {
             next.timer = timer + 1;
             return next;
         }
-        let offset = self.offset;
-        next.offset = offset.add(corrected.mul(self.filter_coefficient));
+        next.offset = self.offset.add(corrected.mul(self.filter_coefficient));
         next
     }
 
@@ -201,33 +178,28 @@ impl Bias {
         settings.is_finite() & grown.is_finite()
     }
 
-    // The number of a reading's checks. Only one that is refused looks at what was given: 5 where that is not finite, else 7.
-    fn reading_refusal(self, gyroscope: Vector, corrected: Vector, next: Bias) -> u8
+    // A reading's checks. Only one that is refused looks at what was given: not finite, or too large for what is made of it.
+    fn check_reading(self, gyroscope: Vector, corrected: Vector, next: Bias) -> Result<(), Refusal>
         requires { Advances self gyroscope corrected next }
-        ensures { result ≡ refusal_of (reading_checks self gyroscope) }
+        ensures { number_in result ≡ refusal_of (reading_checks self gyroscope) }
     {
         if self.all_finite(corrected, next) {
-            return 0;
+            return Ok(());
         }
         if self.is_finite() & gyroscope.is_finite() {
-            return 7;
+            return Err(Refusal::Overflow);
         }
-        5
+        Err(Refusal::NotFinite)
     }
 
     // Subtracts the offset from a reading, and learns from it; the answer is of before that growth.
-    pub fn update(self, gyroscope: Vector) -> Reading
+    pub fn update(self, gyroscope: Vector) -> Reading<Bias>
         ensures { Reads self gyroscope result }
     {
-        let offset = self.offset;
-        let corrected = gyroscope.sub(offset);
+        let corrected = gyroscope.sub(self.offset);
         let next = self.advanced(corrected);
-        let number = self.reading_refusal(gyroscope, corrected, next);
-        if number != 0 {
-            return Reading {
-                state: self,
-                answer: Answer::Refused(number),
-            };
+        if let Err(refusal) = self.check_reading(gyroscope, corrected, next) {
+            return Reading::refused(self, refusal);
         }
         Reading {
             state: next,
@@ -235,47 +207,38 @@ impl Bias {
         }
     }
 
-    // The number of a set offset's check.
-    fn offset_refusal(self, offset: Vector) -> u8
-        ensures { result ≡ refusal_of (offset_checks self offset) }
+    // The check of an offset that is set.
+    #[tactic(auto, unfolding(answer::specs::Refusals::refusal_of))]
+    fn check_offset(self, offset: Vector) -> Result<(), Refusal>
+        ensures { number_in result ≡ refusal_of (offset_checks self offset) }
     {
         if !(self.is_finite() & offset.is_finite()) {
-            return 5;
+            return Err(Refusal::NotFinite);
         }
-        0
+        Ok(())
     }
 
     // Sets the offset, and leaves the timer.
-    pub fn set_offset(self, offset: Vector) -> Change
+    pub fn set_offset(self, offset: Vector) -> Change<Bias>
         ensures { SetsOffset self offset result }
     {
-        let number = self.offset_refusal(offset);
-        if number != 0 {
-            return Change {
-                state: self,
-                number,
-            };
+        if let Err(refusal) = self.check_offset(offset) {
+            return Change::refused(self, refusal);
         }
-        let mut state = self;
-        state.offset = offset;
-        Change { state, number: 0 }
+        Change::made(Bias { offset, ..self })
     }
 
     // Clears the timer and the offset, and keeps the settings.
-    pub fn restart(self) -> Change
+    pub fn restart(self) -> Change<Bias>
         ensures { Restarts self result }
     {
-        let number = self.refusal();
-        if number != 0 {
-            return Change {
-                state: self,
-                number,
-            };
+        if let Err(refusal) = self.check() {
+            return Change::refused(self, refusal);
         }
-        let offset = Vector::ZERO;
-        let mut state = self;
-        state.timer = 0;
-        state.offset = offset;
-        Change { state, number: 0 }
+        Change::made(Bias {
+            timer: 0,
+            offset: Vector::ZERO,
+            ..self
+        })
     }
 }

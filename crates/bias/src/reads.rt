@@ -1,59 +1,30 @@
-// Calls that only read the estimator's state: what they read, or 5 where the state is not finite.
+// Calls that only read the estimator's state: what they read, or the refusal of a state that is not finite.
 ghost use Rattle.bias.specs.Calls.{SettingsReads, OffsetReads, ActiveReads};
 
 use super::{Bias, BiasSettings};
+use answer::Refusal;
 use vector::Vector;
 
-#[derive(Clone, Copy)]
-pub enum SettingsRead {
-    Read(BiasSettings),
-    Refused(u8),
-}
-
-#[derive(Clone, Copy)]
-pub enum OffsetRead {
-    Read(Vector),
-    Refused(u8),
-}
-
-#[derive(Clone, Copy)]
-pub enum ActiveRead {
-    Read(bool),
-    Refused(u8),
-}
-
 impl Bias {
-    pub fn settings(self) -> SettingsRead
+    pub fn settings(self) -> Result<BiasSettings, Refusal>
         ensures { SettingsReads self result }
     {
-        let number = self.refusal();
-        if number != 0 {
-            return SettingsRead::Refused(number);
-        }
-        let settings = self.settings;
-        SettingsRead::Read(settings)
+        self.check()?;
+        Ok(self.settings)
     }
 
-    pub fn offset(self) -> OffsetRead
+    pub fn offset(self) -> Result<Vector, Refusal>
         ensures { OffsetReads self result }
     {
-        let number = self.refusal();
-        if number != 0 {
-            return OffsetRead::Refused(number);
-        }
-        let offset = self.offset;
-        OffsetRead::Read(offset)
+        self.check()?;
+        Ok(self.offset)
     }
 
     // Whether the offset is being learnt.
-    pub fn is_active(self) -> ActiveRead
+    pub fn is_active(self) -> Result<bool, Refusal>
         ensures { ActiveReads self result }
     {
-        let number = self.refusal();
-        if number != 0 {
-            return ActiveRead::Refused(number);
-        }
-        let active = self.timer >= self.timeout;
-        ActiveRead::Read(active)
+        self.check()?;
+        Ok(self.timer >= self.timeout)
     }
 }

@@ -1,5 +1,5 @@
 -- in reading order
-mod Judging  -- an item judged: a header, a record
+pub mod Judging  -- an item judged: a header, a record
 pub mod Reading  -- the items of a log in some bytes, and the statements on a file
 pub mod Refusing  -- each number exactly when; one result
 mod Wrong

@@ -1,6 +1,5 @@
 -- A promise has one result: `Determined` holds. Assumes nothing.
-use Rattle.answer.proofs.Answering.{only_one}
-use Rattle.bias.proofs.Determined.{one_change}
+use Rattle.answer.proofs.Answering.{one_change, only_one}
 use Rattle.editions.specs.Determined.{Determined}
 
 pub determined : Determined

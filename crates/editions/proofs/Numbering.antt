@@ -13,15 +13,16 @@ use Rattle.editions.specs.declared.Edition.{Edition}
 use Rattle.editions.specs.Edition.{settings_at, held_checks, edition_checks}
 use Rattle.editions.proofs.Accepting.{part_numbered}
 
--- n is the number of the part
-module _ (e : Edition) (s : List ℕ) (m : ℕ) (f : Bool) {n : ℕ} (en : n ≡ refusal_of (record_checks e.size e.version s m f)) where
-  pub by_part : (n ≡ 0 → ⊥) → n ≡ refusal_of (edition_checks e s m f)
-  by_part h = at_once_by (record_checks e.size e.version s m f) (held_checks e s) en h
+module _ (e : Edition) (s : List ℕ) (m : ℕ) (f : Bool) where
+  -- where the part is refused
+  pub by_part : {n : ℕ} → n ≡ refusal_of (record_checks e.layout.size e.layout.version s m f) → (n ≡ 0 → ⊥) → n ≡ refusal_of (edition_checks e s m f)
+  by_part en h = at_once_by (record_checks e.layout.size e.layout.version s m f) (held_checks e s) en h
 
-  module _ (z : n ≡ 0) where
+  -- and where it is not
+  module _ (z : 0 ≡ refusal_of (record_checks e.layout.size e.layout.version s m f)) where
     by_settings : {b : Bool} → e.settings ≡ b → refusal_of (edition_checks e s m f) ≡ refusal_of (cond b (settings_checks (settings_at s)) [])
     by_settings h =
-        later (record_checks e.size e.version s m f) (held_checks e s) (part_numbered e s m f) (sym en ∙ z)
+        later (record_checks e.layout.size e.layout.version s m f) (held_checks e s) (part_numbered e s m f) (sym z)
         ∙ ap (λ (b : Bool). refusal_of (cond b (settings_checks (settings_at s)) [])) h
 
     pub with_settings_lem : not e.settings ≡ false → {p : BiasSettings} {k : ℕ} → p ≡ settings_at s → k ≡ refusal_of (settings_checks p)

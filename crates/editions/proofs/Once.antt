@@ -17,7 +17,7 @@ accepted_again : (b : Bias) (s : List ℕ) (m : ℕ) → refusal_of (restore_che
 accepted_again b s m z =
     let e = edition_of (length s) in
     let g = sound e s m (finite_bias b) z in
-    sound_passes e s m _ (record { part = offset.good_again b s m e.size e.version g.part; held = g.held })
+    sound_passes e s m _ (record { part = offset.good_again b s m e.layout.size e.layout.version g.part; held = g.held })
 
 pub still_holds : StillHolds
 still_holds =

@@ -6,7 +6,9 @@ use mathlib.Core.Bool.{cond}
 use mathlib.Core.List.{List, [], ◌∷◌, ◌++◌}
 use lib.ListN.{get_or, take, set}
 use lib.Ieee.{Float, nan, inf, fin, lt, mul, div, neg, of_bits, to_bits}
-use Rattle.answer.specs.Refusals.{refusal_of}
+use Rattle.std.specs.declared.result.Result.TheVariants.{Ok, Err}
+use Rattle.answer.specs.Refusals.{refusal_of, accepted}
+use Rattle.answer.specs.Rows.{refusal_at}
 use Rattle.number.specs.Same.{is_minus_zero}
 use Rattle.number.proofs.Apart.{unlike, one, half, minus_nought}
 use Rattle.vector.specs.Vectors.{vector, finite_vector}
@@ -16,7 +18,7 @@ use Rattle.remap.specs.Names.{name_of, same}
 use Rattle.remap.specs.Composition.{compose_of, inverse_of}
 use Rattle.bias.specs.declared.BiasSettings.{BiasSettings}
 use Rattle.bias.specs.declared.Bias.{Bias}
-use Rattle.bias.specs.declared.Change.{Change}
+use Rattle.answer.specs.declared.change.Change.{Change}
 use Rattle.bias.specs.Settings.{finite_settings, coefficient_of}
 use Rattle.bias.specs.Estimator.{finite_bias, with_timer, with_offset}
 use Rattle.wire.specs.Wire.{put_bits}
@@ -99,8 +101,9 @@ of_move_down = (
   λ h. let e = h.number in omega arith,
 )
 
-abbrev gives : Bias → ℕ → Change
-gives b n = record { state = b; number = n }
+-- by a number, 0 of no refusal
+abbrev gives : Bias → ℕ → Change Bias
+gives b n = record { state = b; result = accepted n (Ok tt) (Err (refusal_at n)) }
 
 -- the offset of the row under mounting 0
 abbrev restored : Bias

@@ -9,14 +9,14 @@ use Rattle.offset.specs.Record.{record_length, record_version, record_checks}
 use Rattle.editions.specs.declared.Edition.{Edition}
 
 abbrev pub first : Edition
-first = record { size = record_length; version = record_version; settings = false }
+first = record { layout = record { size = record_length; version = record_version }; settings = false }
 
 abbrev pub second : Edition
-second = record { size = 34; version = 2; settings = true }
+second = record { layout = record { size = 34; version = 2 }; settings = true }
 
 -- the edition that so many bytes are held to: a length that neither has is refused by the first
 abbrev pub edition_of : ℕ → Edition
-edition_of n = cond (eqb n second.size) second first
+edition_of n = cond (eqb n second.layout.size) second first
 
 unfoldable pub settings_at : List ℕ → BiasSettings
 settings_at s =
@@ -34,4 +34,4 @@ held_checks e s = cond e.settings (settings_checks (settings_at s)) []
 -- the one rule: the offset's part by the edition's length and version, then the settings; with one more mounting number, and with whether the floats
 -- of a state are finite
 abbrev pub edition_checks : Edition → List ℕ → ℕ → Bool → List Check
-edition_checks e s m f = record_checks e.size e.version s m f ++ held_checks e s
+edition_checks e s m f = record_checks e.layout.size e.layout.version s m f ++ held_checks e s

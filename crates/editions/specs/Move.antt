@@ -16,7 +16,7 @@ use Rattle.editions.specs.Edition.{first, second, settings_at, edition_checks}
 
 -- the room has the length of the other edition, and the record is one of its own
 abbrev pub move_checks : Edition → Edition → List ℕ → ℕ → List Check
-move_checks from to s room = check 1 (not (eqb room to.size)) ∷ edition_checks from s 0 true
+move_checks from to s room = check 1 (not (eqb room to.layout.size)) ∷ edition_checks from s 0 true
 
 abbrev pub up_checks : List ℕ → BiasSettings → ℕ → List Check
 up_checks s p room = move_checks first second s room ++ settings_checks p
@@ -28,7 +28,7 @@ down_checks s room = move_checks second first s room
 
 -- the 18 bytes in order, with another version
 abbrev pub part_of : ℕ → List ℕ → List ℕ
-part_of version s = put_u16 (take first.size s) 3 version
+part_of version s = put_u16 (take first.layout.size s) 3 version
 
 -- bit for bit: a minus zero stays one
 abbrev pub settings_bytes : BiasSettings → List ℕ
@@ -39,10 +39,10 @@ settings_bytes p =
     ++ bytes_of (bits_of p.stationary_period)
 
 abbrev pub up_of : List ℕ → BiasSettings → List ℕ
-up_of s p = part_of second.version s ++ settings_bytes p
+up_of s p = part_of second.layout.version s ++ settings_bytes p
 
 abbrev pub down_of : List ℕ → List ℕ
-down_of s = part_of first.version s
+down_of s = part_of first.layout.version s
 
 -- ---- the promises: r is the refusal's number, and `after` holds the moved record, or where it is refused what was there
 
@@ -65,13 +65,13 @@ pub record SingleSettings (p : BiasSettings) : Type 0 where
 abbrev pub UpDown : Type 0
 UpDown =
     (s : List ℕ) (p : BiasSettings) (t up u down : List ℕ) (n : ℕ) → SingleSettings p → MovesUp s p t up 0
-    → length u ≡ first.size → MovesDown up u down n → (n ≡ 0) × (down ≡ s)
+    → length u ≡ first.layout.size → MovesDown up u down n → (n ≡ 0) × (down ≡ s)
 
 -- what was moved down moves up again with the settings that it had, and gives the first bytes
 abbrev pub DownUp : Type 0
 DownUp =
     (s t down u up : List ℕ) (n : ℕ) → Bytes s → MovesDown s t down 0
-    → length u ≡ second.size → MovesUp down (settings_at s) u up n → (n ≡ 0) × (up ≡ s)
+    → length u ≡ second.layout.size → MovesUp down (settings_at s) u up n → (n ≡ 0) × (up ≡ s)
 
 -- the settings of a record that was moved up are those that were given
 abbrev pub Held : Type 0

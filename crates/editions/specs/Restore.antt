@@ -3,7 +3,7 @@ use Rattle.std.specs.Prelude.{ℕ, ◌≡◌, List, ◌⊎◌, length}
 use Rattle.answer.specs.Refusals.{Check, refusal_of}
 use Rattle.bias.specs.declared.Bias.{Bias}
 use Rattle.bias.specs.declared.BiasSettings.{BiasSettings}
-use Rattle.bias.specs.declared.Change.{Change}
+use Rattle.answer.specs.declared.change.Change.{Change}
 use Rattle.bias.specs.Estimator.{finite_bias}
 use Rattle.wire.specs.Wire.{u16_at}
 use Rattle.offset.specs.Restore as offset
@@ -14,7 +14,7 @@ abbrev pub restore_checks : Bias → List ℕ → ℕ → List Check
 restore_checks b s m = edition_checks (edition_of (length s)) s m (finite_bias b)
 
 -- the offset that is set is that of the 18 bytes, as it was
-abbrev pub Restores : Bias → List ℕ → ℕ → Change → Type 0
+abbrev pub Restores : Bias → List ℕ → ℕ → Change Bias → Type 0
 Restores b s m r = offset.RestoresBy restore_checks b s m r
 
 -- ---- the statements
@@ -38,11 +38,11 @@ TwoEditions = (b : Bias) (s : List ℕ) (m : ℕ) → ByTheLength b s m
 
 -- bytes that are no record of the second edition are restored, or refused, as they were by the first's reader
 abbrev pub AsBefore : Type 0
-AsBefore = (b : Bias) (s : List ℕ) (m : ℕ) (r old : Change) → (length s ≡ second.size → ⊥) → Restores b s m r → offset.Restores b s m old → r ≡ old
+AsBefore = (b : Bias) (s : List ℕ) (m : ℕ) (r old : Change Bias) → (length s ≡ second.layout.size → ⊥) → Restores b s m r → offset.Restores b s m old → r ≡ old
 
 -- a record that was moved is restored as it was before, or refused with the same number
 pub record SameOnceMoved : Type 0 where
-  pub up : (s : List ℕ) (p : BiasSettings) (t after : List ℕ) (b : Bias) (m : ℕ) (r moved : Change) → SingleSettings p
+  pub up : (s : List ℕ) (p : BiasSettings) (t after : List ℕ) (b : Bias) (m : ℕ) (r moved : Change Bias) → SingleSettings p
       → MovesUp s p t after 0 → Restores b s m r → Restores b after m moved → moved ≡ r
-  pub down : (s t after : List ℕ) (b : Bias) (m : ℕ) (r moved : Change)
+  pub down : (s t after : List ℕ) (b : Bias) (m : ℕ) (r moved : Change Bias)
       → MovesDown s t after 0 → Restores b s m r → Restores b after m moved → moved ≡ r

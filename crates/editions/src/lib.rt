@@ -7,29 +7,33 @@ pub mod restoring; // restoring.rt: restore
 
 ghost use Rattle.std.specs.Prelude.{◌≡◌};
 ghost use Rattle.answer.specs.Refusals.{refusal_of};
+ghost use Rattle.answer.specs.Rows.{number_in};
 ghost use Rattle.editions.specs.Edition.{settings_at, edition_of, edition_checks};
 
+use answer::Refusal;
 use bias::BiasSettings;
 pub use moving::{move_down, move_up};
+use offset::Layout;
 pub use restoring::restore;
 
-// An edition: how many bytes its records have, their version, and whether settings stand behind the offset's part.
-#[derive(Clone, Copy)]
+// An edition: what its records are held to, and whether settings stand behind the offset's part. A flag and no enum of the two: every rule
+// here is one rule over both (`edition_checks`), and an enum would need a match for the layout and one for the settings.
+#[derive(Clone, Copy, Debug, PartialEq, Eq)]
 struct Edition {
-    size: usize,
-    version: u16,
+    layout: Layout,
     settings: bool,
 }
 
 const FIRST: Edition = Edition {
-    size: offset::LENGTH,
-    version: offset::VERSION,
+    layout: offset::LAYOUT,
     settings: false,
 };
 
 const SECOND: Edition = Edition {
-    size: 34,
-    version: 2,
+    layout: Layout {
+        size: 34,
+        version: 2,
+    },
     settings: true,
 };
 
@@ -37,35 +41,33 @@ const SECOND: Edition = Edition {
 fn edition_of(size: usize) -> Edition
     ensures { result ≡ edition_of size }
 {
-    if size == SECOND.size { SECOND } else { FIRST }
+    if size == SECOND.layout.size {
+        SECOND
+    } else {
+        FIRST
+    }
 }
 
 // The settings that stand behind the offset's part.
+#[tactic(auto, unfolding(crate::specs::Edition::settings_at))]
 fn settings_at(bytes: &[u8]) -> BiasSettings
     ensures { result ≡ settings_at bytes.now }
 {
-    let sample_rate = wire::float_at(bytes, 18);
-    let cutoff_frequency = wire::float_at(bytes, 22);
-    let stationary_threshold = wire::float_at(bytes, 26);
-    let stationary_period = wire::float_at(bytes, 30);
     BiasSettings {
-        sample_rate,
-        stationary_threshold,
-        stationary_period,
-        cutoff_frequency,
+        sample_rate: wire::float_at(bytes, 18),
+        cutoff_frequency: wire::float_at(bytes, 22),
+        stationary_threshold: wire::float_at(bytes, 26),
+        stationary_period: wire::float_at(bytes, 30),
     }
 }
 
-// The number of a record's checks by an edition: the offset's part, then the settings as when they are given to the estimator.
-fn edition_refusal(bytes: &[u8], edition: Edition, mounting: u8, finite: bool) -> u8
-    ensures { result ≡ refusal_of (edition_checks edition bytes.now mounting finite) }
+// A record's checks by an edition: the offset's part, then the settings as when they are given to the estimator.
+fn check_edition(bytes: &[u8], edition: Edition, mounting: u8, finite: bool) -> Result<(), Refusal>
+    ensures { number_in result ≡ refusal_of (edition_checks edition bytes.now mounting finite) }
 {
-    let number = offset::record_refusal(bytes, edition.size, edition.version, mounting, finite);
-    if number != 0 {
-        return number;
-    }
+    offset::check_record(bytes, edition.layout, mounting, finite)?;
     if !edition.settings {
-        return 0;
+        return Ok(());
     }
-    settings_at(bytes).refusal()
+    settings_at(bytes).check()
 }

@@ -1,10 +1,12 @@
 // A record moved to the other edition: up, given settings, and down, dropping them.
 ghost use Rattle.std.specs.Prelude.{◌≤◌, ◌≡◌, ◌++◌, length, drop};
 ghost use Rattle.answer.specs.Refusals.{refusal_of};
+ghost use Rattle.answer.specs.Rows.{number_in};
 ghost use Rattle.editions.specs.Move.{part_of, move_checks, up_checks, MovesUp, MovesDown};
 ghost use Rattle.editions.specs.Inner.{put_settings};
 
-use super::{Edition, FIRST, SECOND, edition_refusal};
+use super::{Edition, FIRST, SECOND, check_edition};
+use answer::Refusal;
 use bias::BiasSettings;
 
 // The offset's part of a record, with another version, at the front of `out`.
@@ -26,48 +28,39 @@ fn put_settings(settings: BiasSettings, out: &mut [u8])
     wire::put_bits(out, 30, wire::bits_of(settings.stationary_period));
 }
 
-// The number of a move's checks: the room for the other edition, and the record by its own.
-fn move_refusal(source: &[u8], from: Edition, to: Edition, room: usize) -> u8
-    ensures { result ≡ refusal_of (move_checks from to source.now room) }
+// A move's checks: the room for the other edition, and the record by its own.
+fn check_move(source: &[u8], from: Edition, to: Edition, room: usize) -> Result<(), Refusal>
+    ensures { number_in result ≡ refusal_of (move_checks from to source.now room) }
 {
-    if room != to.size {
-        return 1;
+    if room != to.layout.size {
+        return Err(Refusal::Length);
     }
-    edition_refusal(source, from, 0, true)
+    check_edition(source, from, 0, true)
 }
 
 // Those of a move up, and then of the settings that were given.
-fn up_refusal(source: &[u8], settings: BiasSettings, room: usize) -> u8
-    ensures { result ≡ refusal_of (up_checks source.now settings room) }
+fn check_up(source: &[u8], settings: BiasSettings, room: usize) -> Result<(), Refusal>
+    ensures { number_in result ≡ refusal_of (up_checks source.now settings room) }
 {
-    let number = move_refusal(source, FIRST, SECOND, room);
-    if number != 0 {
-        return number;
-    }
-    settings.refusal()
+    check_move(source, FIRST, SECOND, room)?;
+    settings.check()
 }
 
 // Writes a record of the first edition as one of the second; a refused call leaves the buffer as it was.
-pub fn move_up(source: &[u8], settings: BiasSettings, out: &mut [u8]) -> u8
-    ensures { MovesUp source.now settings out.old out.new result }
+pub fn move_up(source: &[u8], settings: BiasSettings, out: &mut [u8]) -> Result<(), Refusal>
+    ensures { MovesUp source.now settings out.old out.new (number_in result) }
 {
-    let number = up_refusal(source, settings, out.len());
-    if number != 0 {
-        return number;
-    }
-    put_part(source, SECOND.version, out);
+    check_up(source, settings, out.len())?;
+    put_part(source, SECOND.layout.version, out);
     put_settings(settings, out);
-    0
+    Ok(())
 }
 
 // Writes a record of the second edition as one of the first; a refused call leaves the buffer as it was.
-pub fn move_down(source: &[u8], out: &mut [u8]) -> u8
-    ensures { MovesDown source.now out.old out.new result }
+pub fn move_down(source: &[u8], out: &mut [u8]) -> Result<(), Refusal>
+    ensures { MovesDown source.now out.old out.new (number_in result) }
 {
-    let number = move_refusal(source, SECOND, FIRST, out.len());
-    if number != 0 {
-        return number;
-    }
-    put_part(source, FIRST.version, out);
-    0
+    check_move(source, SECOND, FIRST, out.len())?;
+    put_part(source, FIRST.layout.version, out);
+    Ok(())
 }

@@ -4,31 +4,27 @@ ghost use Rattle.editions.specs.Move.{down_of};
 ghost use Rattle.editions.specs.Restore.{Restores};
 
 use super::moving::put_part;
-use super::{FIRST, edition_of, edition_refusal};
-use bias::{Bias, Change};
+use super::{FIRST, check_edition, edition_of};
+use answer::Change;
+use bias::Bias;
 
 // The offset's part as a record of the first edition.
-fn lowered(bytes: &[u8]) -> [u8; 18]
+fn lowered(bytes: &[u8]) -> [u8; offset::LENGTH]
     requires { 18 ≤ length bytes.now }
     ensures { result ≡ down_of bytes.now }
 {
-    let mut first = [0u8; 18];
-    put_part(bytes, FIRST.version, &mut first);
+    let mut first = [0u8; offset::LENGTH];
+    put_part(bytes, FIRST.layout.version, &mut first);
     first
 }
 
 // Sets the recorded offset, in the frame of `mounting`, and nothing else; a refused call leaves the state as it was.
-pub fn restore(bias: Bias, bytes: &[u8], mounting: u8) -> Change
+pub fn restore(bias: Bias, bytes: &[u8], mounting: u8) -> Change<Bias>
     ensures { Restores bias bytes.now mounting result }
 {
     let edition = edition_of(bytes.len());
-    let number = edition_refusal(bytes, edition, mounting, bias.is_finite());
-    if number != 0 {
-        return Change {
-            state: bias,
-            number,
-        };
+    if let Err(refusal) = check_edition(bytes, edition, mounting, bias.is_finite()) {
+        return Change::refused(bias, refusal);
     }
-    let first = lowered(bytes);
-    offset::restore(bias, &first, mounting)
+    offset::restore(bias, &lowered(bytes), mounting)
 }

@@ -1,13 +1,16 @@
 -- What no check of a call refuses: a known convention, finite numbers and a heading in range; and the checks that come after them. Assumes nothing.
-use Prim.Native.Nat.{ℕ}
-use mathlib.Core.Path.{◌≡◌, sym, ap, ◌∙◌}
+use mathlib.Core.Path.{◌≡◌, refl, sym, ◌∙◌}
 use mathlib.Core.Bool.{Bool, true, false, ◌&&◌, true≢false}
 use mathlib.Core.List.{List, [], ◌++◌}
 use lib.Ieee.{Float}
 use lib.Ieee.Scale.{finite}
-use Rattle.answer.specs.Refusals.{Check, refusal_of, accepted, ascends}
-use Rattle.answer.specs.Said.{number_said}
-use Rattle.answer.proofs.Answering.{passed}
+use Rattle.std.specs.Prelude.{is_err}
+use Rattle.std.specs.declared.result.Result.{Result}
+use Rattle.std.specs.declared.result.Result.TheVariants.{Ok, Err}
+use Rattle.answer.specs.declared.refusal.Refusal.{Refusal}
+use Rattle.answer.specs.Refusals.{Check, refusal_of, ascends}
+use Rattle.answer.specs.Rows.{row_of, number_in}
+use Rattle.answer.proofs.Answering.{passed, is_row}
 use Rattle.answer.proofs.Tests.{both}
 use Rattle.answer.proofs.Joined.{refused_first, passed_first}
 use Rattle.trig.specs.Degrees.{in_turn}
@@ -16,11 +19,24 @@ use Rattle.vector.specs.Vectors.{finite_vector}
 use Rattle.math.specs.declared.quaternion.Quaternion.{Quaternion}
 use Rattle.settings.specs.Config.{known_convention}
 use Rattle.ahrs.specs.declared.Ahrs.{Ahrs}
-use Rattle.ahrs.specs.declared.read.QuaternionRead.{QuaternionRead}
-use Rattle.ahrs.specs.declared.read.QuaternionRead.TheVariants.{Read, Refused}
 use Rattle.ahrs.specs.Filter.{finite_state, updated_of}
-use Rattle.ahrs.specs.Calls.{state_checks, update_checks, quaternion_said, QuaternionReads}
+use Rattle.ahrs.specs.Calls.{state_checks, update_checks, QuaternionReads}
 use Rattle.heading.specs.Calls.{heading_checks, given_checks}
+
+-- ---- a result has a number exactly where it is a refusal
+
+pub number_ok : (v : Result (Unit {0}) Refusal) → number_in v ≡ 0 → is_err v ≡ false
+number_ok (Ok u) z = refl
+number_ok (Err e) z = absurd (is_row e z)
+
+pub ok_number : (v : Result (Unit {0}) Refusal) → is_err v ≡ false → number_in v ≡ 0
+ok_number (Ok u) h = refl
+ok_number (Err e) h = absurd (true≢false h)
+
+pub err_number : (v : Result (Unit {0}) Refusal) → is_err v ≡ true → number_in v ≡ 0 → ⊥
+err_number v h z = true≢false (sym h ∙ number_ok v z)
+
+-- ---- what no check of a heading refuses
 
 pub record Given (s : Ahrs) (given : Bool) (heading : Float) : Type 0 where
   pub known : known_convention s.settings ≡ true
@@ -44,24 +60,13 @@ module _ (s : Ahrs) (given : Bool) (heading : Float) (e : refusal_of (given_chec
 
 -- ---- what reading the orientation says of the state's own checks
 
-abbrev said : QuaternionRead → ℕ
-said x = number_said (quaternion_said x)
-
-abbrev is_read : QuaternionRead → Bool
-is_read (Read q) = true
-is_read (Refused k) = false
-
-module _ (s : Ahrs) (given : Bool) (heading : Float) {r : QuaternionRead} where
-  pub read_first : {q : Quaternion} → r ≡ Read q → QuaternionReads s r → refusal_of (heading_checks given heading) ≡ refusal_of (given_checks s given heading)
+module _ (s : Ahrs) (given : Bool) (heading : Float) where
+  pub read_first : {q : Quaternion} → QuaternionReads s (Ok q) → refusal_of (heading_checks given heading) ≡ refusal_of (given_checks s given heading)
   unfolding ascends
-  read_first e p = sym (passed_first (state_checks s) (heading_checks given heading) tt (sym p.number ∙ ap said e))
+  read_first p = sym (passed_first (state_checks s) (heading_checks given heading) tt (sym p.number))
 
-  pub refused_read : {n : ℕ} → r ≡ Refused n → QuaternionReads s r → n ≡ refusal_of (given_checks s given heading)
-  refused_read {n} e p = sym (ap said e) ∙ p.number ∙ sym (refused_first (state_checks s) (heading_checks given heading) refused)
-    where
-      -- else it would be read
-      refused : refusal_of (state_checks s) ≡ 0 → ⊥
-      refused z = true≢false (sym (ap is_read (sym e ∙ p.exact ∙ ap (λ (k : ℕ). accepted k (Read s.quaternion) (Refused k)) z)))
+  pub refused_read : {e : Refusal} → QuaternionReads s (Err e) → row_of e ≡ refusal_of (given_checks s given heading)
+  refused_read {e} p = p.number ∙ sym (refused_first (state_checks s) (heading_checks given heading) (λ z. is_row e (p.number ∙ z)))
 
 -- ---- what no check of an update refuses
 

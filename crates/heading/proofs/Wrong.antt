@@ -10,6 +10,8 @@ use Rattle.number.proofs.Apart.{bits, half, nought, one, unlike}
 use Rattle.root.specs.Root.{floor_root, nearest_root_of, significand_of, exponent_of, squared_of, root_bits_of, sqrt_of}
 use Rattle.answer.specs.declared.Answer.{Answer}
 use Rattle.answer.specs.declared.Answer.TheVariants.{Oriented, Refused}
+use Rattle.std.specs.declared.result.Result.TheVariants.{Ok, Err}
+use Rattle.answer.specs.declared.refusal.Refusal.TheVariants.{Unknown, NotFinite, OutOfRange, Overflow}
 use Rattle.answer.specs.Refusals.{refusal_of}
 use Rattle.trig.specs.Degrees.{turns, left, left_minus}
 use Rattle.trig.specs.Fixed.{scaled_of, stage_of, sine_fixed_of, cosine_fixed_of, per_degree_of}
@@ -27,7 +29,8 @@ use Rattle.settings.specs.declared.Settings.{Settings}
 use Rattle.settings.specs.declared.limit.Limit.TheVariants.{Squared}
 use Rattle.settings.specs.Config.{finite_settings, finite_config, limit_of, derived_of}
 use Rattle.settings.specs.Axes.{over_of}
-use Rattle.step.specs.Sensor.{reset_of, longer_of, skipped_of, rejected_of, residual_of, half_inclination_feedback_of, half_heading_feedback_of, finite_rejection}
+use Rattle.step.specs.Sensor.{reset_of, longer_of, skipped_of, rejected_of}
+use Rattle.step.specs.Sensor.{residual_of, half_inclination_feedback_of, half_heading_feedback_of, finite_rejection}
 use Rattle.step.specs.Direction.{half_gravity_of, half_west_of}
 use Rattle.step.specs.Rate.{startup_gain_of, rate_of, integrated_of}
 use Rattle.ahrs.specs.declared.Ahrs.{Ahrs}
@@ -80,12 +83,13 @@ parts s = bits s.quaternion.w ∷ bits s.quaternion.y ∷ []
 
 -- 6 left out, above and below; a heading of 360 refused; 5 for a convention of 3
 pub of_range
-    : (SetsHeading (start 0) beyond (record { state = start 0; number = 0 }) → ⊥)
-    × (SetsHeading (start 0) (neg beyond) (record { state = start 0; number = 0 }) → ⊥)
-    × (SetsHeading (start 0) full (record { state = start 0; number = 6 }) → ⊥)
-    × (SetsHeading (start 3) nan (record { state = start 3; number = 5 }) → ⊥)
+    : (SetsHeading (start 0) beyond (record { state = start 0; result = Ok tt }) → ⊥)
+    × (SetsHeading (start 0) (neg beyond) (record { state = start 0; result = Ok tt }) → ⊥)
+    × (SetsHeading (start 0) full (record { state = start 0; result = Err OutOfRange }) → ⊥)
+    × (SetsHeading (start 3) nan (record { state = start 3; result = Err NotFinite }) → ⊥)
 unfolding refusal_of finite_state finite_settings finite_config finite_quaternion finite_vector finite_rejection fresh_of derived_of limit_of reset_of
-    headable finite_point yaw_of headed_of angle_of bearing_of ratio_of steps_of degrees_of octant_of guess_of sine_step cosine_step radians_of sin_of cos_of grid_of
+    headable finite_point yaw_of headed_of angle_of bearing_of ratio_of steps_of degrees_of octant_of guess_of sine_step cosine_step
+    radians_of sin_of cos_of grid_of
     size_of minus_of turns left left_minus slope_of float_of sine_fixed_of cosine_fixed_of per_degree_of scaled_of stage_of
     fabsf_of eq ne lt le add sub mul div neg sum round units odd of_bits to_bits of_int
 of_range = (
@@ -98,10 +102,12 @@ of_range = (
 -- any other w and y but a heading of 0 on what has none, be they those that roll's point gives; any but half a turn of a start to the south, be it the state
 -- untouched or the heading halved twice
 pub of_set_heading
-    : ((n : Ahrs) → (parts n ≡ 0 ∷ 0 ∷ [] → ⊥) → SetsHeading rolled nought (record { state = n; number = 0 }) → ⊥)
-    × ((n : Ahrs) → (bits n.quaternion.z ≡ 0x3f80_0000 → ⊥) → SetsHeading (start 0) south (record { state = n; number = 0 }) → ⊥)
-unfolding with_quaternion refusal_of finite_state finite_settings finite_config finite_quaternion finite_vector finite_rejection fresh_of derived_of limit_of reset_of
-    headable finite_point yaw_of headed_of angle_of bearing_of ratio_of steps_of degrees_of octant_of guess_of sine_step cosine_step radians_of sin_of cos_of grid_of
+    : ((n : Ahrs) → (parts n ≡ 0 ∷ 0 ∷ [] → ⊥) → SetsHeading rolled nought (record { state = n; result = Ok tt }) → ⊥)
+    × ((n : Ahrs) → (bits n.quaternion.z ≡ 0x3f80_0000 → ⊥) → SetsHeading (start 0) south (record { state = n; result = Ok tt }) → ⊥)
+unfolding with_quaternion refusal_of finite_state finite_settings finite_config finite_quaternion finite_vector finite_rejection fresh_of
+    derived_of limit_of reset_of
+    headable finite_point yaw_of headed_of angle_of bearing_of ratio_of steps_of degrees_of octant_of guess_of sine_step cosine_step
+    radians_of sin_of cos_of grid_of
     size_of minus_of turns left left_minus slope_of float_of sine_fixed_of cosine_fixed_of per_degree_of scaled_of stage_of
     fabsf_of eq ne lt le add sub mul div neg sum round units odd of_bits to_bits of_int
 of_set_heading = (λ n other h. other (ap parts h.holds), λ n other h. other (ap (λ (s : Ahrs). bits s.quaternion.z) h.holds))
@@ -111,8 +117,9 @@ of_set_heading = (λ n other h. other (ap parts h.holds), λ n other h. other (a
 -- 6 left out; refused, and the state turned
 pub of_refused_external
     : (UpdatesHeading (start 0) still still beyond (record { state = start 0; answer = Oriented one nought nought nought }) → ⊥)
-    × (UpdatesHeading (start 3) still still nought (record { state = yawed; answer = Refused 4 }) → ⊥)
-unfolding with_quaternion refusal_of finite_state finite_settings finite_config finite_quaternion finite_vector finite_rejection fresh_of derived_of limit_of reset_of
+    × (UpdatesHeading (start 3) still still nought (record { state = yawed; answer = Refused Unknown }) → ⊥)
+unfolding with_quaternion refusal_of finite_state finite_settings finite_config finite_quaternion finite_vector finite_rejection fresh_of
+    derived_of limit_of reset_of
     fabsf_of eq ne lt le add sub mul div neg sum round units odd of_bits to_bits of_int
 of_refused_external = (λ h. unlike 0 6 refl h.answer.number, λ h. unlike 0x3f80_0000 0 refl (ap (λ (s : Ahrs). bits s.quaternion.z) h.state))
 
@@ -124,27 +131,33 @@ up = vector nought nought one
 pub of_external
     : ((n : Ahrs) (r : Answer) → (bits n.accelerometer.z ≡ 0x3f80_0000 → ⊥)
     → UpdatesHeading (start 0) still up south (record { state = n; answer = r }) → ⊥)
-    × ((n : Ahrs) → UpdatesHeading (start 0) still up south (record { state = n; answer = Refused 7 }) → ⊥)
-unfolding with_quaternion refusal_of finite_state finite_settings finite_config finite_quaternion finite_vector finite_rejection fresh_of derived_of limit_of reset_of
-    roll_of magnetometer_of updated_of overrange_of over_of startup_gain_of half_feedback_of half_gravity_of half_west_of half_inclination_feedback_of half_heading_feedback_of
+    × ((n : Ahrs) → UpdatesHeading (start 0) still up south (record { state = n; answer = Refused Overflow }) → ⊥)
+unfolding with_quaternion refusal_of finite_state finite_settings finite_config finite_quaternion finite_vector finite_rejection fresh_of
+    derived_of limit_of reset_of
+    roll_of magnetometer_of updated_of overrange_of over_of startup_gain_of half_feedback_of half_gravity_of half_west_of
+    half_inclination_feedback_of half_heading_feedback_of
     skipped_of longer_of rejected_of residual_of rate_of integrated_of saturated_of rejection.moved_of rejection.updated_of quaternions.normalize_of
     vectors.normalize_of quaternions.norm_of vectors.norm_of quaternions.norm_squared_of vectors.norm_squared_of dot_of sqrt_of root_bits_of squared_of
     exponent_of significand_of nearest_root_of floor_root count_leading_zeros
-    headable finite_point yaw_of headed_of angle_of bearing_of ratio_of steps_of degrees_of octant_of guess_of sine_step cosine_step radians_of sin_of cos_of grid_of
+    headable finite_point yaw_of headed_of angle_of bearing_of ratio_of steps_of degrees_of octant_of guess_of sine_step cosine_step
+    radians_of sin_of cos_of grid_of
     size_of minus_of turns left left_minus slope_of float_of sine_fixed_of cosine_fixed_of per_degree_of scaled_of stage_of
     fabsf_of eq ne lt le add sub mul div neg sum round units odd of_bits to_bits to_signed of_int
 of_external = (λ n r other h. other (ap (λ (s : Ahrs). bits s.accelerometer.z) h.state), λ n h. unlike 7 0 refl h.answer.number)
 
 -- the first half refused and the second kept; in startup any other w but that of a heading of 0, be it the state untouched or only the first half kept
 pub of_unaided
-    : (UpdatesUnaided yawed (vector nan nought nought) still (record { state = with_heading yawed nought; answer = Refused 5 }) → ⊥)
+    : (UpdatesUnaided yawed (vector nan nought nought) still (record { state = with_heading yawed nought; answer = Refused NotFinite }) → ⊥)
     × ((n : Ahrs) (r : Answer) → (bits n.quaternion.w ≡ 0x3f80_0000 → ⊥) → UpdatesUnaided yawed still still (record { state = n; answer = r }) → ⊥)
-unfolding with_quaternion refusal_of finite_state finite_settings finite_config finite_quaternion finite_vector finite_rejection fresh_of derived_of limit_of reset_of
-    roll_of magnetometer_of updated_of overrange_of over_of startup_gain_of half_feedback_of half_gravity_of half_west_of half_inclination_feedback_of half_heading_feedback_of
+unfolding with_quaternion refusal_of finite_state finite_settings finite_config finite_quaternion finite_vector finite_rejection fresh_of
+    derived_of limit_of reset_of
+    roll_of magnetometer_of updated_of overrange_of over_of startup_gain_of half_feedback_of half_gravity_of half_west_of
+    half_inclination_feedback_of half_heading_feedback_of
     skipped_of longer_of rejected_of residual_of rate_of integrated_of saturated_of rejection.moved_of rejection.updated_of quaternions.normalize_of
     vectors.normalize_of quaternions.norm_of vectors.norm_of quaternions.norm_squared_of vectors.norm_squared_of dot_of sqrt_of root_bits_of squared_of
     exponent_of significand_of nearest_root_of floor_root count_leading_zeros
-    headable finite_point yaw_of headed_of angle_of bearing_of ratio_of steps_of degrees_of octant_of guess_of sine_step cosine_step radians_of sin_of cos_of grid_of
+    headable finite_point yaw_of headed_of angle_of bearing_of ratio_of steps_of degrees_of octant_of guess_of sine_step cosine_step
+    radians_of sin_of cos_of grid_of
     size_of minus_of turns left left_minus slope_of float_of sine_fixed_of cosine_fixed_of per_degree_of scaled_of stage_of
     fabsf_of eq ne lt le add sub mul div neg sum round units odd of_bits to_bits to_signed of_int
 of_unaided = (

@@ -115,7 +115,9 @@ alike true b f g = sym (f refl)
 alike false true f g = g refl
 alike false false f g = refl
 
-pub headed_zero : (q : Quaternion) (heading : Float) → Fits q → finite_quaternion (headed_of q heading) ≡ true → eq_of (headed_of q heading) zeros ≡ eq_of q zeros
+pub headed_zero
+    : (q : Quaternion) (heading : Float) → Fits q → finite_quaternion (headed_of q heading) ≡ true
+    → eq_of (headed_of q heading) zeros ≡ eq_of q zeros
 unfolding headed_of
 headed_zero q heading t f =
     let turn = half_turn_of q heading in

@@ -3,6 +3,9 @@ use Rattle.std.specs.Prelude.{Bool, true, not, cond, ◌&&◌, List, [], ◌∷�
 use Rattle.std.specs.Float.Ieee.Scale.{finite}
 use Rattle.number.specs.Float32.{zero}
 use Rattle.answer.specs.Refusals.{Check, check, Exactly}
+use Rattle.answer.specs.declared.change.Change.{Change}
+use Rattle.answer.specs.declared.change.Reading.{Reading}
+use Rattle.answer.specs.Rows.{number_in}
 use Rattle.answer.specs.Promises.{Changed, Moved, One}
 use Rattle.trig.specs.Degrees.{in_turn}
 use Rattle.vector.specs.declared.Vector.{Vector}
@@ -10,8 +13,6 @@ use Rattle.vector.specs.Vectors.{zero_vector, finite_vector}
 use Rattle.math.specs.declared.quaternion.Quaternion.{Quaternion}
 use Rattle.math.specs.Quaternions.{finite_quaternion}
 use Rattle.ahrs.specs.declared.Ahrs.{Ahrs}
-use Rattle.ahrs.specs.declared.Reading.{Reading}
-use Rattle.ahrs.specs.declared.change.Change.{Change}
 use Rattle.ahrs.specs.Filter.{finite_state, with_quaternion, updated_of}
 use Rattle.ahrs.specs.Calls.{state_checks, update_checks, oriented_of}
 use Rattle.heading.specs.Turn.{finite_point, yaw_of, roll_of, headed_of, magnetometer_of}
@@ -36,8 +37,8 @@ headable q heading = finite_point (yaw_of q) && finite_quaternion (headed_of q h
 abbrev pub set_checks : Ahrs → Float → List Check
 set_checks s heading = given_checks s true heading ++ (check 7 (not (headable s.quaternion heading)) ∷ [])
 
-abbrev pub SetsHeading : Ahrs → Float → Change → Type 0
-SetsHeading s heading r = Changed (set_checks s heading) (with_heading s heading) s r.state r.number
+abbrev pub SetsHeading : Ahrs → Float → Change Ahrs → Type 0
+SetsHeading s heading r = Changed (set_checks s heading) (with_heading s heading) s r.state (number_in r.result)
 
 -- ---- an update with a heading from elsewhere: one with the magnetometer that would show it
 
@@ -50,7 +51,7 @@ external_checks s g a heading =
     given_checks s (finite_vector g && finite_vector a) heading
     ++ (check 7 (not (finite_point (roll_of s.quaternion))) ∷ check 7 (not (finite_state (external_of s g a heading))) ∷ [])
 
-abbrev pub UpdatesHeading : Ahrs → Vector → Vector → Float → Reading → Type 0
+abbrev pub UpdatesHeading : Ahrs → Vector → Vector → Float → Reading Ahrs → Type 0
 UpdatesHeading s g a heading r =
     Moved (external_checks s g a heading) (oriented_of (external_of s g a heading).quaternion) (external_of s g a heading) s r.state r.answer
 
@@ -68,7 +69,7 @@ unaided_checks s g a =
     let next = unaided_of s g a in
     update_checks s g a zero_vector ++ (check 7 (next.startup && not (headable next.quaternion zero)) ∷ [])
 
-abbrev pub UpdatesUnaided : Ahrs → Vector → Vector → Reading → Type 0
+abbrev pub UpdatesUnaided : Ahrs → Vector → Vector → Reading Ahrs → Type 0
 UpdatesUnaided s g a r =
     let next = northed_of (unaided_of s g a) in
     Moved (unaided_checks s g a) (oriented_of next.quaternion) next s r.state r.answer

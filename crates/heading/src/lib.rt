@@ -1,62 +1,58 @@
 // Headings without a compass: one that is set, an update with one from elsewhere, and an update with none. Angles stay in degrees.
+// State, sensors and heading stand apart, as the Rust's calls have them, and as every theorem of these calls does.
 #![tactic(auto)]
 
 ghost use Rattle.std.specs.Prelude.{◌≡◌};
 ghost use Rattle.answer.specs.Refusals.{refusal_of};
+ghost use Rattle.answer.specs.Rows.{number_in};
 ghost use Rattle.heading.specs.Calls.{heading_checks, given_checks, SetsHeading, UpdatesHeading, UpdatesUnaided};
 
-use ahrs::read::QuaternionRead;
-use ahrs::{Ahrs, Change, Reading};
-use answer::Answer;
+use ahrs::Ahrs;
+use answer::{Answer, Change, Reading, Refusal};
 use vector::Vector;
 
 pub mod point; // point.rt: Point, yaw, roll
 pub mod turn; // turn.rt: headed, heading_magnetometer
 
-// 5 where something that was given is not finite, and 6 for a heading beyond 360 degrees either way.
-fn heading_refusal(given: bool, heading: f32) -> u8
-    ensures { result ≡ refusal_of (heading_checks given heading) }
+// Whether what was given is finite, and the heading not beyond 360 degrees either way.
+#[tactic(auto, unfolding(answer::specs::Refusals::refusal_of))]
+fn check_heading(given: bool, heading: f32) -> Result<(), Refusal>
+    ensures { number_in result ≡ refusal_of (heading_checks given heading) }
 {
     if !(given & number::is_finite(heading)) {
-        return 5;
+        return Err(Refusal::NotFinite);
     }
     if !trig::in_turn(heading) {
-        return 6;
+        return Err(Refusal::OutOfRange);
     }
-    0
+    Ok(())
 }
 
 // 4 and 5 of the state come first.
-fn refusal(state: Ahrs, given: bool, heading: f32) -> u8
-    ensures { result ≡ refusal_of (given_checks state given heading) }
+#[tactic(auto, using(crate::proofs::Given::read_first, crate::proofs::Given::refused_read))]
+fn check(state: Ahrs, given: bool, heading: f32) -> Result<(), Refusal>
+    ensures { number_in result ≡ refusal_of (given_checks state given heading) }
 {
-    let read = state.quaternion();
-    match read {
-        QuaternionRead::Read(_) => heading_refusal(given, heading),
-        QuaternionRead::Refused(number) => number,
-    }
+    state.quaternion()?;
+    check_heading(given, heading)
 }
 
 // Yaw becomes the heading; roll and pitch stay.
-pub fn set_heading(state: Ahrs, heading: f32) -> Change
+pub fn set_heading(state: Ahrs, heading: f32) -> Change<Ahrs>
     ensures { SetsHeading state heading result }
 {
-    let number = refusal(state, true, heading);
-    if number != 0 {
-        return Change { state, number };
+    if let Err(refusal) = check(state, true, heading) {
+        return Change::refused(state, refusal);
     }
-    let q = state.quaternion;
-    let at = point::yaw(q);
-    let quaternion = turn::headed(q, heading);
+    let at = point::yaw(state.quaternion);
+    let quaternion = turn::headed(state.quaternion, heading);
     if !(at.is_finite() & quaternion.is_finite()) {
-        return Change { state, number: 7 };
+        return Change::refused(state, Refusal::Overflow);
     }
-    let mut next = state;
-    next.quaternion = quaternion;
-    Change {
-        state: next,
-        number: 0,
-    }
+    Change::made(Ahrs {
+        quaternion,
+        ..state
+    })
 }
 
 // An update with the magnetometer that would show the heading.
@@ -65,57 +61,45 @@ pub fn update_external_heading(
     gyroscope: Vector,
     accelerometer: Vector,
     heading: f32,
-) -> Reading
+) -> Reading<Ahrs>
     ensures { UpdatesHeading state gyroscope accelerometer heading result }
 {
     let given = gyroscope.is_finite() & accelerometer.is_finite();
-    let number = refusal(state, given, heading);
-    if number != 0 {
-        return Reading {
-            state,
-            answer: Answer::Refused(number),
-        };
+    if let Err(refusal) = check(state, given, heading) {
+        return Reading::refused(state, refusal);
     }
-    let q = state.quaternion;
-    let at = point::roll(q);
-    let magnetometer = turn::heading_magnetometer(q, heading);
+    let at = point::roll(state.quaternion);
+    let magnetometer = turn::heading_magnetometer(state.quaternion, heading);
     let reading = state.update(gyroscope, accelerometer, magnetometer);
-    let answer = reading.answer;
     // what was given is finite, so that any refusal left is for what comes out
-    if !at.is_finite() | (answer.number() != 0) {
-        return Reading {
-            state,
-            answer: Answer::Refused(7),
-        };
+    if !at.is_finite() | reading.answer.check().is_err() {
+        return Reading::refused(state, Refusal::Overflow);
     }
     reading
 }
 
 // An update without magnetometer; in startup heading 0 is set then. Where either half is refused, neither is kept.
-pub fn update_no_magnetometer(state: Ahrs, gyroscope: Vector, accelerometer: Vector) -> Reading
+pub fn update_no_magnetometer(
+    state: Ahrs,
+    gyroscope: Vector,
+    accelerometer: Vector,
+) -> Reading<Ahrs>
     ensures { UpdatesUnaided state gyroscope accelerometer result }
 {
-    let magnetometer = Vector::ZERO;
-    let reading = state.update(gyroscope, accelerometer, magnetometer);
-    let answer = reading.answer;
-    if answer.number() != 0 {
+    let reading = state.update(gyroscope, accelerometer, Vector::ZERO);
+    if reading.answer.check().is_err() {
         return reading;
     }
-    let next = reading.state;
-    if !next.startup {
+    if !reading.state.startup {
         return reading;
     }
-    let zeroed = set_heading(next, 0.0);
-    if zeroed.number != 0 {
-        return Reading {
-            state,
-            answer: Answer::Refused(zeroed.number),
-        };
+    let zeroed = set_heading(reading.state, 0.0);
+    if let Err(refusal) = zeroed.result {
+        return Reading::refused(state, refusal);
     }
-    let last = zeroed.state;
-    let q = last.quaternion;
+    let q = zeroed.state.quaternion;
     Reading {
-        state: last,
+        state: zeroed.state,
         answer: Answer::Oriented(q.w, q.x, q.y, q.z),
     }
 }

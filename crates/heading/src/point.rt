@@ -1,16 +1,17 @@
-// The two points of an orientation whose angles are its yaw and its roll.
+// The two points of an orientation whose angles are its yaw and its roll: two formulas of other components, so two functions.
 ghost use Rattle.std.specs.Prelude.{◌≡◌};
 ghost use Rattle.heading.specs.Turn.{finite_point, angle_at, yaw_of, roll_of};
 
 use math::Quaternion;
 
-#[derive(Clone, Copy)]
+#[derive(Clone, Copy, Debug, PartialEq)]
 pub(crate) struct Point {
     y: f32,
     x: f32,
 }
 
 impl Point {
+    #[tactic(auto, unfolding(crate::specs::Turn::finite_point))]
     pub(crate) fn is_finite(self) -> bool
         ensures { result ≡ finite_point self }
     {
@@ -24,6 +25,7 @@ impl Point {
     }
 }
 
+#[tactic(auto, unfolding(crate::specs::Turn::yaw_of))]
 pub(crate) fn yaw(q: Quaternion) -> Point
     ensures { result ≡ yaw_of q }
 {
@@ -33,6 +35,7 @@ pub(crate) fn yaw(q: Quaternion) -> Point
     }
 }
 
+#[tactic(auto, unfolding(crate::specs::Turn::roll_of))]
 pub(crate) fn roll(q: Quaternion) -> Point
     ensures { result ≡ roll_of q }
 {

@@ -7,11 +7,11 @@ use math::Quaternion;
 use vector::Vector;
 
 // Turned about the vertical; roll and pitch stay.
+#[tactic(auto, unfolding(crate::specs::Turn::headed_of))]
 pub(crate) fn headed(q: Quaternion, heading: f32) -> Quaternion
     ensures { result ≡ headed_of q heading }
 {
-    let at = yaw(q);
-    let half_yaw_minus_heading = 0.5 * (at.angle() - heading);
+    let half_yaw_minus_heading = 0.5 * (yaw(q).angle() - heading);
     let rotation = Quaternion::new(
         trig::cos(half_yaw_minus_heading),
         0.0,
@@ -21,11 +21,11 @@ pub(crate) fn headed(q: Quaternion, heading: f32) -> Quaternion
     rotation.product(q)
 }
 
+#[tactic(auto, unfolding(crate::specs::Turn::magnetometer_of))]
 pub(crate) fn heading_magnetometer(q: Quaternion, heading: f32) -> Vector
     ensures { result ≡ magnetometer_of q heading }
 {
-    let at = roll(q);
-    let roll_angle = at.angle();
+    let roll_angle = roll(q).angle();
     let sin_heading = trig::sin(heading);
     Vector::new(
         trig::cos(heading),

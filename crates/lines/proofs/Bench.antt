@@ -7,7 +7,8 @@ use lib.Dec.{T}
 use Rattle.answer.specs.Refusals.{refusal_of}
 use Rattle.text.specs.Text.{newline, decimal_of, named_of, refused_of}
 use Rattle.vector.specs.Mounting.{mounting_of}
-use Rattle.remap.specs.declared.MountingRead.TheVariants.{Refused}
+use Rattle.std.specs.declared.result.Result.TheVariants.{Err}
+use Rattle.answer.specs.declared.refusal.Refusal.TheVariants.{Length}
 use Rattle.remap.specs.First.{first}
 use Rattle.remap.specs.Names.{name_of, same}
 use Rattle.remap.specs.Composition.{compose_of}
@@ -20,7 +21,7 @@ example = 43 ∷ 89 ∷ 43 ∷ 90 ∷ 43 ∷ 88 ∷ 32 ∷ 43 ∷ 89 ∷ 43 ∷ 
 abbrev whole_output : List ℕ
 whole_output = 43 ∷ 90 ∷ 43 ∷ 88 ∷ 43 ∷ 89 ∷ newline ∷ []
 
-pub bench : (printed [] example ≡ whole_output) × (printed [] [] ≡ []) × (printed [] (newline ∷ []) ≡ text_of (Refused 1))
+pub bench : (printed [] example ≡ whole_output) × (printed [] [] ≡ []) × (printed [] (newline ∷ []) ≡ text_of (Err Length))
 unfolding printed last_of answer_of refusal_of compose_of first same name_of mounting_of text_of refused_of named_of decimal_of
 bench = (refl, refl, refl)
 

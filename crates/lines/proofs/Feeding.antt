@@ -7,6 +7,8 @@ use mathlib.Core.List.{List, [], ◌∷◌, ◌++◌, append-nil}
 use lib.ListN.{length, take, drop, get_or, length-append}
 use lib.Seq.{take-suc, take_all}
 use Rattle.answer.specs.Refusals.{Check, refusal_of}
+use Rattle.answer.specs.Rows.{number_in}
+use Rattle.std.specs.declared.result.Result.TheVariants.{Ok}
 use Rattle.wire.proofs.Cutting.{after_append, gives_append}
 use Rattle.text.specs.Putting.{over, Feeds}
 use Rattle.text.proofs.Putting.{puts_as, over_over}
@@ -30,12 +32,12 @@ pub record Feeding (s old : List ℕ) (l : Line) (out : List ℕ) (f : Fed) (i :
   pub within : i ≤ length s
   pub room : f.n ≤ 10 * i
   pub long : length out ≡ length old
-  pub number : f.refusal ≡ 0
+  pub number : number_in f.result ≡ 0
   pub line : f.line ≡ line_after l (take i s)
   pub count : f.n ≡ length (text_after l (take i s))
   pub holds : out ≡ over (text_after l (take i s)) old
 
-pub feed_none : (s old : List ℕ) (l : Line) → Feeding s old l old (record { line = l; n = 0; refusal = 0 }) 0
+pub feed_none : (s old : List ℕ) (l : Line) → Feeding s old l old (record { line = l; n = 0; result = Ok tt }) 0
 unfolding line_after text_after over
 feed_none s old l = record { within = omega arith; room = omega arith; long = refl; number = refl; line = refl; count = refl; holds = refl }
 
@@ -64,7 +66,7 @@ module _ (s old : List ℕ) (l : Line) (out : List ℕ) (f : Fed) (i : ℕ) (g :
       }
 
   pub feed_all : (cs : List Check) → refusal_of cs ≡ 0 → length s ≤ i
-      → Feeds cs l (line_after l s) (text_after l s) old out f.line f.n f.refusal
+      → Feeds cs l (line_after l s) (text_after l s) old out f.line f.n (number_in f.result)
   feed_all cs e h =
       let whole : take i s ≡ s = take_all i s h in
       fed cs l (line_after l s) (text_after l s) old e g.number (g.line ∙ ap (line_after l) whole)

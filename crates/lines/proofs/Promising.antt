@@ -6,6 +6,7 @@ use mathlib.Core.List.{List, []}
 use lib.ListN.{length}
 use borrow.Author.Tests.{lt-ltb, le-ltb}
 use Rattle.answer.specs.Refusals.{refusal_of}
+use Rattle.answer.specs.Rows.{number_in}
 use Rattle.answer.proofs.Answering.{fails, passes, all_pass}
 use Rattle.lines.specs.declared.Line.{Line}
 use Rattle.lines.specs.declared.Fed.{Fed}
@@ -28,9 +29,9 @@ module _ (out : List ℕ) where
 -- ---- what a caller that lends enough needs no test for
 
 pub feed_accepted
-    : (part : List ℕ) {l : Line} {out after : List ℕ} {r : Fed} → PartFed l part out after r → 10 * length part ≤ length out
-    → r.refusal ≡ 0
-feed_accepted part {l} {out} f h = f.number ∙ room part out (omega arith)
+    : (part : List ℕ) {l : Line} {out after : List ℕ} (r : Fed) → PartFed l part out after r → 10 * length part ≤ length out
+    → number_in r.result ≡ 0
+feed_accepted part {l} {out} r f h = f.number ∙ room part out (omega arith)
 
-pub last_accepted : {l : Line} {out after : List ℕ} {r : Fed} → LastFed l out after r → 10 ≤ length out → r.refusal ≡ 0
-last_accepted {l} {out} f h = f.number ∙ room_for_last out h
+pub last_accepted : {l : Line} {out after : List ℕ} (r : Fed) → LastFed l out after r → 10 ≤ length out → number_in r.result ≡ 0
+last_accepted {l} {out} r f h = f.number ∙ room_for_last out h

@@ -4,6 +4,8 @@ use mathlib.Core.Path.{◌≡◌}
 use mathlib.Core.List.{List}
 use Rattle.answer.specs.Refusals.{Check, ascends}
 use Rattle.answer.proofs.Table.{by_the_table}
+use Rattle.answer.proofs.Answering.{same_result}
+use Rattle.answer.specs.Rows.{number_in}
 use Rattle.text.specs.Putting.{Feeds}
 use Rattle.text.proofs.Feeding.{fed_once}
 use Rattle.lines.specs.declared.Line.{Line}
@@ -23,11 +25,12 @@ exactly_when =
 
 -- a result is its three fields, and the promise says each
 same : {cs : List Check} {l new : Line} {text old after also : List ℕ} {r s : Fed}
-    → Feeds cs l new text old after r.line r.n r.refusal → Feeds cs l new text old also s.line s.n s.refusal
+    → Feeds cs l new text old after r.line r.n (number_in r.result) → Feeds cs l new text old also s.line s.n (number_in s.result)
     → (r ≡ s) × (after ≡ also)
-same p q =
-    let (line, n, refusal, holds) = fed_once _ _ _ _ _ _ _ _ _ _ _ _ _ _ p q in
-    (λ i. record { line = line i; n = n i; refusal = refusal i }, holds)
+same {r = r} {s = s} p q =
+    let (line, n, number, holds) = fed_once _ _ _ _ _ _ _ _ _ _ _ _ _ _ p q in
+    let result = same_result r.result s.result number in
+    (λ i. record { line = line i; n = n i; result = result i }, holds)
 
 pub determined : Determined
 determined = record { feed = λ l part old after also r s p q. same p q; last = λ l old after also r s p q. same p q }

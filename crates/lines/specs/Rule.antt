@@ -2,11 +2,13 @@
 use Rattle.std.specs.Prelude.{ℕ, not, ◌||◌, cond, List, [], ◌∷◌, ◌++◌, eqb, ltb, length, get_or, take, drop}
 use Rattle.answer.specs.Refusals.{Check, check}
 use Rattle.text.specs.Text.{space, newline, refused_of}
-use Rattle.remap.specs.declared.MountingRead.{MountingRead}
-use Rattle.remap.specs.declared.MountingRead.TheVariants.{Number, Refused}
+use Rattle.std.specs.declared.result.Result.{Result}
+use Rattle.std.specs.declared.result.Result.TheVariants.{Ok, Err}
+use Rattle.answer.specs.declared.refusal.Refusal.{Refusal}
+use Rattle.answer.specs.Rows.{row_of}
 use Rattle.remap.specs.Given.{given_of}
 use Rattle.remap.specs.Names.{name_of, named_by}
-use Rattle.remap.specs.Composition.{compose_of, compose_checks}
+use Rattle.remap.specs.Composition.{compose_of}
 
 -- the mountings that a line's two names give, 24 where a name is unknown
 abbrev pub first_name : List ℕ → ℕ
@@ -23,19 +25,13 @@ line_checks n s =
     []
 
 -- the mounting "first then second", or a refusal
-unfoldable pub answer_of : ℕ → List ℕ → MountingRead
+unfoldable pub answer_of : ℕ → List ℕ → Result ℕ Refusal
 answer_of n s = given_of (line_checks n s) (compose_of (first_name s) (second_name s))
 
--- the same, of two names that were read
-abbrev pub both_of : MountingRead → MountingRead → MountingRead
-both_of (Number a) (Number b) = given_of (compose_checks a b) (compose_of a b)
-both_of (Number a) (Refused n) = Refused 4
-both_of (Refused n) second = Refused 4
-
 -- the name and a newline, or the refusal's line
-unfoldable pub text_of : MountingRead → List ℕ
-text_of (Number m) = name_of m ++ (newline ∷ [])
-text_of (Refused n) = refused_of n
+unfoldable pub text_of : Result ℕ Refusal → List ℕ
+text_of (Ok m) = name_of m ++ (newline ∷ [])
+text_of (Err e) = refused_of (row_of e)
 
 -- what is printed for a line of n bytes
 abbrev pub line_text : ℕ → List ℕ → List ℕ

@@ -5,26 +5,29 @@
 
 ghost use Rattle.std.specs.Prelude.{◌≡◌, ◌+◌, ◌≤◌, length};
 ghost use Rattle.text.specs.Putting.{Puts};
-ghost use Rattle.lines.specs.Rule.{answer_of, both_of, text_of, line_text};
+ghost use Rattle.lines.specs.Rule.{answer_of, text_of};
 ghost use Rattle.lines.specs.Machine.{fresh_line, kept_of, print_of};
 ghost use Rattle.lines.specs.Feeding.{PartFed, LastFed};
 ghost use Rattle.lines.specs.Inner.{Printable, Takes};
 
-use remap::MountingRead;
+use answer::Refusal;
+use remap::Mounting;
 
-// The bytes of a line that is not ended, at most 13 of them; n is how many came, 14 for any more.
-#[derive(Clone, Copy)]
+// The bytes of a line that is not ended, at most 13 of them; n is how many came, 14 for any more. It is no slice or vector: n goes past
+// the bytes, and `feed` promises what any line leaves.
+#[derive(Clone, Copy, Debug, PartialEq, Eq)]
 pub struct Line {
     pub n: usize,
     pub text: [u8; 13],
 }
 
-// The line that is not ended, how many bytes are to be printed, and the refusal's number.
-#[derive(Clone, Copy)]
+// The line that is not ended, how many bytes are to be printed, and whether the call was refused. The bytes are in the caller's buffer: a
+// slice of it here would keep it lent.
+#[derive(Clone, Copy, Debug, PartialEq, Eq)]
 pub struct Fed {
     pub line: Line,
     pub n: usize,
-    pub refusal: u8,
+    pub result: Result<(), Refusal>,
 }
 
 // The start of a line.
@@ -38,104 +41,79 @@ pub fn fresh() -> Line
     }
 }
 
-// "First then second" of two names that were read.
-fn both(first: MountingRead, second: MountingRead) -> MountingRead
-    ensures { result ≡ both_of first second }
-{
-    match first {
-        MountingRead::Number(a) => match second {
-            MountingRead::Number(b) => remap::compose(a, b),
-            MountingRead::Refused(_) => MountingRead::Refused(4),
-        },
-        MountingRead::Refused(_) => MountingRead::Refused(4),
-    }
-}
-
-// The answer to a line of n bytes.
-fn answer(n: usize, text: [u8; 13]) -> MountingRead
-    ensures { result ≡ answer_of n text }
-{
-    if (n != 13) | (text[6] != b' ') {
-        return MountingRead::Refused(1);
-    }
-    let first = remap::read_name(&text[..6]);
-    let second = remap::read_name(&text[7..13]);
-    both(first, second)
-}
-
-// A line after one byte more.
-#[tactic(auto, using(crate::proofs::Keeping::ended, crate::proofs::Keeping::stored, crate::proofs::Keeping::counted))]
-fn kept(line: Line, byte: u8) -> Line
-    ensures { result ≡ kept_of line byte }
-{
-    if byte == b'\n' {
-        return fresh();
-    }
-    let n = line.n;
-    let mut text = line.text;
-    if n < 13 {
-        text[n] = byte;
-        return Line { n: n + 1, text };
-    }
-    Line { n: 14, text }
-}
-
-fn put_name(mounting: u8, out: &mut [u8]) -> usize
-    requires printable { Printable (MountingRead.Number mounting) }
-    requires in_bounds { 10 ≤ length out.old }
-    ensures { Puts (text_of (MountingRead.Number mounting)) out.old out.new result }
-{
-    remap::write_name(mounting, &mut out[..6]);
-    out[6] = b'\n';
-    7
-}
-
 // Puts an answer's line at the start of `out`; how many bytes it is.
-fn put(answer: MountingRead, out: &mut [u8]) -> usize
+fn put(answer: Result<u8, Refusal>, out: &mut [u8]) -> usize
     requires printable { Printable answer }
     requires in_bounds { 10 ≤ length out.old }
     ensures { Puts (text_of answer) out.old out.new result }
 {
     match answer {
-        MountingRead::Number(mounting) => put_name(mounting, out),
-        MountingRead::Refused(number) => text::put_refused(number, out),
+        Ok(number) => {
+            let mounting = Mounting { number };
+            out[..6].copy_from_slice(&mounting.name());
+            out[6] = b'\n';
+            7
+        }
+        Err(refusal) => text::put_refused(refusal, out),
     }
 }
 
-// Puts the answer to a line of n bytes.
-fn put_answer(n: usize, text: [u8; 13], out: &mut [u8]) -> usize
-    requires { 10 ≤ length out.old }
-    ensures { Puts (line_text n text) out.old out.new result }
-{
-    put(answer(n, text), out)
-}
-
-// What a byte prints: a newline, the answer to the line that it ends; any other, nothing.
-fn print(line: Line, byte: u8, out: &mut [u8]) -> usize
-    requires { 10 ≤ length out.old }
-    ensures { Puts (print_of line byte) out.old out.new result }
-{
-    if byte != b'\n' {
-        return 0;
+impl Line {
+    // The answer to the line.
+    fn answer(self) -> Result<u8, Refusal>
+        ensures { result ≡ answer_of self.n self.text }
+    {
+        let text = self.text;
+        if (self.n != 13) | (text[6] != b' ') {
+            return Err(Refusal::Length);
+        }
+        let first = remap::read_name(&text[..6])?;
+        let second = remap::read_name(&text[7..13])?;
+        remap::compose(first, second)
     }
-    let n = line.n;
-    let text = line.text;
-    put_answer(n, text, out)
+
+    // The line after one byte more.
+    #[tactic(auto, using(crate::proofs::Keeping::ended, crate::proofs::Keeping::stored, crate::proofs::Keeping::counted))]
+    fn kept(self, byte: u8) -> Line
+        ensures { result ≡ kept_of self byte }
+    {
+        if byte == b'\n' {
+            return fresh();
+        }
+        let n = self.n;
+        let mut text = self.text;
+        if n < 13 {
+            text[n] = byte;
+            return Line { n: n + 1, text };
+        }
+        Line { n: 14, text }
+    }
+
+    // What a byte prints: a newline, the answer to the line that it ends; any other, nothing.
+    fn print(self, byte: u8, out: &mut [u8]) -> usize
+        requires { 10 ≤ length out.old }
+        ensures { Puts (print_of self byte) out.old out.new result }
+    {
+        if byte != b'\n' {
+            return 0;
+        }
+        put(self.answer(), out)
+    }
 }
 
-// One byte, whose text goes behind that of the bytes before.
-fn take_byte(fed: Fed, byte: u8, out: &mut [u8]) -> Fed
-    requires { fed.n + 10 ≤ length out.old }
-    ensures { Takes fed byte out.old out.new result }
-{
-    let before = fed.line;
-    let at = fed.n;
-    let n = at + print(before, byte, &mut out[at..]);
-    let line = kept(before, byte);
-    Fed {
-        line,
-        n,
-        refusal: 0,
+impl Fed {
+    // After one byte more, whose text goes behind that of the bytes before.
+    fn take_byte(self, byte: u8, out: &mut [u8]) -> Fed
+        requires { self.n + 10 ≤ length out.old }
+        ensures { Takes self byte out.old out.new result }
+    {
+        let at = self.n;
+        let n = at + self.line.print(byte, &mut out[at..]);
+        Fed {
+            line: self.line.kept(byte),
+            n,
+            result: Ok(()),
+        }
     }
 }
 
@@ -147,18 +125,16 @@ pub fn feed(line: Line, part: &[u8], out: &mut [u8]) -> Fed
         return Fed {
             line,
             n: 0,
-            refusal: 1,
+            result: Err(Refusal::Length),
         };
     }
     let mut fed = Fed {
         line,
         n: 0,
-        refusal: 0,
+        result: Ok(()),
     };
-    let mut i = 0;
-    while i < part.len() {
-        fed = take_byte(fed, part[i], out);
-        i += 1;
+    for &byte in part {
+        fed = fed.take_byte(byte, out);
     }
     fed
 }
@@ -171,22 +147,17 @@ pub fn last(line: Line, out: &mut [u8]) -> Fed
         return Fed {
             line,
             n: 0,
-            refusal: 1,
+            result: Err(Refusal::Length),
         };
     }
-    let n = line.n;
-    if n == 0 {
-        return Fed {
-            line: fresh(),
-            n: 0,
-            refusal: 0,
-        };
-    }
-    let text = line.text;
-    let n = put_answer(n, text, out);
+    let n = if line.n == 0 {
+        0
+    } else {
+        put(line.answer(), out)
+    };
     Fed {
         line: fresh(),
         n,
-        refusal: 0,
+        result: Ok(()),
     }
 }

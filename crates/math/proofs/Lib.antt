@@ -1,4 +1,5 @@
 -- in reading order
+pub mod Equal  -- what the derived == says
 pub mod Shows  -- a finite quaternion shows finite operands
 pub mod Zeros  -- a quaternion of zeros stays one, and has no finite norm; on Shows
 pub mod Bounds  -- whole numbers: four rounded squares and their sum

@@ -1,5 +1,5 @@
 -- What each method of a quaternion gives, in the operation order of the Rust's math/quaternion.rs.
-use Rattle.std.specs.Prelude.{Bool, ◌&&◌, List, [], ◌∷◌, get_or, Float}
+use Rattle.std.specs.Prelude.{◌≡◌, refl, Bool, ◌&&◌, List, [], ◌∷◌, get_or, Float}
 use Rattle.std.specs.Float.{nan}
 use Rattle.std.specs.Float.Ieee.{eq, neg}
 use Rattle.std.specs.Float.Ieee.Scale.{finite}
@@ -41,6 +41,15 @@ norm_squared_of q = sum_of (hadamard_of q q)
 
 unfoldable pub norm_of : Quaternion → Float
 norm_of q = sqrt_of (norm_squared_of q)
+
+-- which is what both are, said without unfolding
+pub is_norm_squared : (q : Quaternion) → norm_squared_of q ≡ sum_of (hadamard_of q q)
+unfolding norm_squared_of
+is_norm_squared q = refl
+
+pub is_norm : (q : Quaternion) → norm_of q ≡ sqrt_of (norm_squared_of q)
+unfolding norm_of
+is_norm q = refl
 
 abbrev pub add_of : Quaternion → Quaternion → Quaternion
 add_of p q = quaternion (p.w ⊕ q.w) (p.x ⊕ q.x) (p.y ⊕ q.y) (p.z ⊕ q.z)

@@ -1,4 +1,5 @@
-// Matrices and quaternions of f32, by value, in the Rust's operation order. They refuse nothing and follow IEEE 754.
+// Matrices and quaternions of f32, by value, in the Rust's operation order. They refuse nothing and follow IEEE 754. Their operators are
+// named methods by value, as a vector's are.
 #![tactic(auto)]
 
 pub mod matrix; // matrix.rt
@@ -6,4 +7,4 @@ pub mod quaternion; // quaternion.rt
 
 pub use matrix::Matrix;
 pub use quaternion::Quaternion;
-pub use vector::Vector;
+pub use vector::{Components, Vector};

@@ -1,10 +1,10 @@
 // A 3 by 3 matrix of f32, rows first: the Rust's math/matrix.rs. A field's name is its row and then its column.
 ghost use Rattle.std.specs.Prelude.{◌≡◌};
-ghost use Rattle.math.specs.Matrices.{identity_matrix, eq_of, from_rows_of, to_rows_of, transpose_of, mul_of, mul_vector_of};
+ghost use Rattle.math.specs.Matrices.{identity_matrix, from_rows_of, to_rows_of, transpose_of, mul_of, mul_vector_of};
 
 use vector::Vector;
 
-#[derive(Clone, Copy)]
+#[derive(Clone, Copy, Debug, PartialEq)]
 pub struct Matrix {
     pub xx: f32,
     pub xy: f32,
@@ -35,45 +35,6 @@ impl Matrix {
         ensures { result ≡ identity_matrix }
     {
         Matrix::IDENTITY
-    }
-
-    // The Rust's `==`, element by element.
-    pub fn eq(self, rhs: Matrix) -> bool
-        ensures { result ≡ eq_of self rhs }
-    {
-        let x = (self.xx == rhs.xx) & (self.xy == rhs.xy) & (self.xz == rhs.xz);
-        let y = (self.yx == rhs.yx) & (self.yy == rhs.yy) & (self.yz == rhs.yz);
-        let z = (self.zx == rhs.zx) & (self.zy == rhs.zy) & (self.zz == rhs.zz);
-        x & y & z
-    }
-
-    pub fn from_rows(rows: [[f32; 3]; 3]) -> Matrix
-        ensures { result ≡ from_rows_of rows }
-    {
-        let x = rows[0];
-        let y = rows[1];
-        let z = rows[2];
-        Matrix {
-            xx: x[0],
-            xy: x[1],
-            xz: x[2],
-            yx: y[0],
-            yy: y[1],
-            yz: y[2],
-            zx: z[0],
-            zy: z[1],
-            zz: z[2],
-        }
-    }
-
-    pub fn to_rows(self) -> [[f32; 3]; 3]
-        ensures { result ≡ to_rows_of self }
-    {
-        [
-            [self.xx, self.xy, self.xz],
-            [self.yx, self.yy, self.yz],
-            [self.zx, self.zy, self.zz],
-        ]
     }
 
     pub fn transpose(self) -> Matrix
@@ -117,5 +78,32 @@ impl Matrix {
             y: self.yx * v.x + self.yy * v.y + self.yz * v.z,
             z: self.zx * v.x + self.zy * v.y + self.zz * v.z,
         }
+    }
+}
+
+impl From<[[f32; 3]; 3]> for Matrix {
+    ghost from_gives = { λ rows m. m ≡ from_rows_of rows };
+
+    fn from(rows: [[f32; 3]; 3]) -> Matrix {
+        let [x, y, z] = rows;
+        Matrix {
+            xx: x[0],
+            xy: x[1],
+            xz: x[2],
+            yx: y[0],
+            yy: y[1],
+            yz: y[2],
+            zx: z[0],
+            zy: z[1],
+            zz: z[2],
+        }
+    }
+}
+
+impl From<Matrix> for [[f32; 3]; 3] {
+    ghost from_gives = { λ m rows. rows ≡ to_rows_of m };
+
+    fn from(m: Matrix) -> [[f32; 3]; 3] {
+        [[m.xx, m.xy, m.xz], [m.yx, m.yy, m.yz], [m.zx, m.zy, m.zz]]
     }
 }

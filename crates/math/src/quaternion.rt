@@ -1,12 +1,12 @@
 // A quaternion of f32, the scalar part first: the Rust's math/quaternion.rs. Its length is whatever it is: nothing makes it 1.
 ghost use Rattle.std.specs.Prelude.{◌≡◌};
-ghost use Rattle.math.specs.Quaternions.{quaternion, finite_quaternion, eq_of, sum_of, hadamard_of, vector_product_of, conjugate_of, norm_squared_of};
-ghost use Rattle.math.specs.Quaternions.{norm_of, normalize_of, to_matrix_of, rotate_of, add_of, mul_of, product_of, from_array_of, to_array_of};
+ghost use Rattle.math.specs.Quaternions.{quaternion, finite_quaternion, sum_of, hadamard_of, vector_product_of, conjugate_of, norm_squared_of};
+ghost use Rattle.math.specs.Quaternions.{norm_of, is_norm_squared, is_norm, normalize_of, to_matrix_of, rotate_of, add_of, mul_of, product_of, from_array_of, to_array_of};
 
 use super::matrix::Matrix;
-use vector::Vector;
+use vector::{Components, Vector};
 
-#[derive(Clone, Copy)]
+#[derive(Clone, Copy, Debug, PartialEq)]
 pub struct Quaternion {
     pub w: f32,
     pub x: f32,
@@ -29,6 +29,7 @@ impl Quaternion {
     }
 
     // Whether no component is a NaN or an infinity.
+    #[tactic(auto, unfolding(crate::specs::Quaternions::finite_quaternion))]
     pub fn is_finite(self) -> bool
         ensures { result ≡ finite_quaternion self }
     {
@@ -36,30 +37,6 @@ impl Quaternion {
             & number::is_finite(self.x)
             & number::is_finite(self.y)
             & number::is_finite(self.z)
-    }
-
-    // The Rust's `==`: a NaN equals nothing, and the zeros are equal.
-    pub fn eq(self, rhs: Quaternion) -> bool
-        ensures { result ≡ eq_of self rhs }
-    {
-        (self.w == rhs.w) & (self.x == rhs.x) & (self.y == rhs.y) & (self.z == rhs.z)
-    }
-
-    pub fn sum(self) -> f32
-        ensures { result ≡ sum_of self }
-    {
-        self.w + self.x + self.y + self.z
-    }
-
-    pub fn hadamard(self, rhs: Quaternion) -> Quaternion
-        ensures { result ≡ hadamard_of self rhs }
-    {
-        Quaternion {
-            w: self.w * rhs.w,
-            x: self.x * rhs.x,
-            y: self.y * rhs.y,
-            z: self.z * rhs.z,
-        }
     }
 
     // The product with a vector as a quaternion whose scalar part is zero.
@@ -85,19 +62,8 @@ impl Quaternion {
         }
     }
 
-    pub fn norm_squared(self) -> f32
-        ensures { result ≡ norm_squared_of self }
-    {
-        self.hadamard(self).sum()
-    }
-
-    pub fn norm(self) -> f32
-        ensures { result ≡ norm_of self }
-    {
-        root::sqrtf(self.norm_squared())
-    }
-
     // Times the reciprocal of the norm. A zero quaternion gives NaNs, as in the Rust.
+    #[tactic(auto, unfolding(crate::specs::Quaternions::normalize_of))]
     pub fn normalize(self) -> Quaternion
         ensures { result ≡ normalize_of self }
     {
@@ -125,6 +91,7 @@ impl Quaternion {
         }
     }
 
+    #[tactic(auto, unfolding(crate::specs::Quaternions::rotate_of))]
     pub fn rotate(self, v: Vector) -> Vector
         ensures { result ≡ rotate_of self v }
     {
@@ -164,21 +131,48 @@ impl Quaternion {
             z: self.w * rhs.z + self.x * rhs.y - self.y * rhs.x + self.z * rhs.w,
         }
     }
+}
 
-    pub fn from_array(wxyz: [f32; 4]) -> Quaternion
-        ensures { result ≡ from_array_of wxyz }
-    {
-        Quaternion {
-            w: wxyz[0],
-            x: wxyz[1],
-            y: wxyz[2],
-            z: wxyz[3],
-        }
+impl Components for Quaternion {
+    ghost summed = { sum_of };
+
+    ghost multiplied = { hadamard_of };
+
+    ghost squared = { norm_squared_of };
+
+    ghost length = { norm_of };
+
+    ghost is_squared = { is_norm_squared };
+
+    ghost is_length = { is_norm };
+
+    fn sum(self) -> f32 {
+        self.w + self.x + self.y + self.z
     }
 
-    pub fn to_array(self) -> [f32; 4]
-        ensures { result ≡ to_array_of self }
-    {
-        [self.w, self.x, self.y, self.z]
+    fn hadamard(self, rhs: Quaternion) -> Quaternion {
+        Quaternion {
+            w: self.w * rhs.w,
+            x: self.x * rhs.x,
+            y: self.y * rhs.y,
+            z: self.z * rhs.z,
+        }
+    }
+}
+
+impl From<[f32; 4]> for Quaternion {
+    ghost from_gives = { λ a q. q ≡ from_array_of a };
+
+    fn from(wxyz: [f32; 4]) -> Quaternion {
+        let [w, x, y, z] = wxyz;
+        Quaternion { w, x, y, z }
+    }
+}
+
+impl From<Quaternion> for [f32; 4] {
+    ghost from_gives = { λ q a. a ≡ to_array_of q };
+
+    fn from(q: Quaternion) -> [f32; 4] {
+        [q.w, q.x, q.y, q.z]
     }
 }

@@ -1,6 +1,7 @@
 -- A number of a size at most n, a whole number, and what is made of such numbers: rounding keeps the order, and a whole number of up to 2 ^ 24 is an f32,
 -- so that a sum, a difference and a product are at most those of the bounds, and so finite. Assumes nothing.
-use Rattle.std.proofs.Common.{◌≡◌, ℕ, zero, suc, ◌+◌, ◌-◌, ◌*◌, ◌^◌, ◌<◌, ◌≤◌, Bool, true, false, cond, not, T, ltb, leb, sym, refl, subst, true≢false, mul-le-mul_right, zero-lt-suc, mul-le-mul, mul-pos, zero-mul, le_of_mul-le-mul_right, arith, leb→le, pow_pos}
+use Rattle.std.proofs.Common.{◌≡◌, ℕ, zero, suc, ◌+◌, ◌-◌, ◌*◌, ◌^◌, ◌<◌, ◌≤◌, Bool, true, false, cond, not, T, ltb, leb, sym, refl, subst, true≢false}
+use Rattle.std.proofs.Common.{mul-le-mul_right, zero-lt-suc, mul-le-mul, mul-pos, zero-mul, le_of_mul-le-mul_right, arith, leb→le, pow_pos}
 use lib.Ieee.{Float, nan, inf, fin, Format, binary32, prec, emax, low, up, down, unlike, odd, units, round, neg, sum, add, sub, mul, le, of_bits}
 use lib.Ieee.Back.{round_whole}
 use lib.Ieee.Bits.{is_true}

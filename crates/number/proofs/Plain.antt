@@ -1,5 +1,6 @@
 -- x + 0.0 is x with the sign of a zero dropped, and what `plain` leaves. Assumes nothing.
-use Rattle.std.proofs.Common.{◌≡◌, ℕ, zero, suc, ◌*◌, ◌<◌, Bool, true, false, T, ℤ, pos, refl, ◌∙◌, ap₂, true≢false, add-zero, zero-lt-suc, mul-pos, zero-mul, mul-one, arith, eqb→eq}
+use Rattle.std.proofs.Common.{◌≡◌, ℕ, zero, suc, ◌*◌, ◌<◌, Bool, true, false, T, ℤ, pos, refl, ◌∙◌, ap₂, true≢false, add-zero, zero-lt-suc, mul-pos, zero-mul}
+use Rattle.std.proofs.Common.{mul-one, arith, eqb→eq}
 use mathlib.Core.Bool.{false≢true}
 use native.Mathlib.Nat.{sub-zero}
 use lib.Dec.{leb-zero, leb-suc-suc, leb-suc-zero}

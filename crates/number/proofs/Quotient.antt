@@ -1,5 +1,6 @@
 -- The quotient of two whole numbers of 32 bits is finite, where the divisor is not 0. Assumes nothing.
-use Rattle.std.proofs.Common.{◌≡◌, ℕ, suc, ◌*◌, ◌^◌, ◌<◌, ◌≤◌, Bool, true, false, cond, T, eqb, ℤ, pos, negsuc, nat_abs, refl, ap, ◌∙◌, subst, le_trans, le_of_eq, lt_of_lt_of_le, zero-lt-suc, mul_assoc, mul_comm, mul-le-mul, mul-pos, zero-mul, mul_left_comm, arith, eqb-true}
+use Rattle.std.proofs.Common.{◌≡◌, ℕ, suc, ◌*◌, ◌^◌, ◌<◌, ◌≤◌, Bool, true, false, cond, T, eqb, ℤ, pos, negsuc, nat_abs, refl, ap, ◌∙◌, subst, le_trans}
+use Rattle.std.proofs.Common.{le_of_eq, lt_of_lt_of_le, zero-lt-suc, mul_assoc, mul_comm, mul-le-mul, mul-pos, zero-mul, mul_left_comm, arith, eqb-true}
 use lib.Signed.{mag}
 use lib.Ieee.{Float, nan, inf, fin, binary32, up, down, unlike, round, neg, div, le, of_int}
 use lib.Ieee.Bits.{is_true}

@@ -1,6 +1,8 @@
 -- A rounded fraction lies near the fraction: at most 2 ^ -24 of it and half of the smallest f32 away; and a whole number of the smallest at most 2 ^ -24
 -- of it. What rounds to zero is at most half of the smallest. Assumes nothing.
-use Rattle.std.proofs.Common.{◌≡◌, ℕ, ◌+◌, ◌-◌, ◌*◌, ◌/◌, ◌%◌, ◌^◌, ◌<◌, ◌≤◌, not, T, ◌⊎◌, sym, ap, ◌∙◌, subst, inl, inr, le_trans, le_of_eq, mul-le-mul_right, mod-lt, eq-zero-or-pos, mul-pos, div-add-mod', le-div_iff_mul-le, zero-mul, mul-one, le_of_mul-le-mul_right, arith, eqb→eq, leb→le, pow_pos, pow-add}
+use Rattle.std.proofs.Common.{◌≡◌, ℕ, ◌+◌, ◌-◌, ◌*◌, ◌/◌, ◌%◌, ◌^◌, ◌<◌, ◌≤◌, not, T, ◌⊎◌, sym, ap, ◌∙◌, subst, inl, inr, le_trans, le_of_eq, mul-le-mul_right}
+use Rattle.std.proofs.Common.{mod-lt, eq-zero-or-pos, mul-pos, div-add-mod', le-div_iff_mul-le, zero-mul, mul-one, le_of_mul-le-mul_right, arith, eqb→eq}
+use Rattle.std.proofs.Common.{leb→le, pow_pos, pow-add}
 use Prim.Native.Nat.{compare, Ordering}
 use lib.Dec.{is_le, compare_is_eq, nleb→lt}
 use lib.Ieee.{binary32, size, nearest}
@@ -15,7 +17,8 @@ use lib.Ieee.Scale.{grid}
 abbrev Half : ℕ → ℕ → ℕ → Type 0
 Half u x y = (2 * x ≤ 2 * y + u) × (2 * y ≤ 2 * x + u)
 
-by_rest : (n u q r : ℕ) → q * u + r ≡ n → r < u → (o : Ordering) → (T (is_le o) → r * 2 ≤ u) → (T (not (is_le o)) → u < r * 2) → (T (compare_is_eq o) → r * 2 ≡ u)
+by_rest : (n u q r : ℕ) → q * u + r ≡ n → r < u → (o : Ordering)
+    → (T (is_le o) → r * 2 ≤ u) → (T (not (is_le o)) → u < r * 2) → (T (compare_is_eq o) → r * 2 ≡ u)
     → Half u (nearest q o * u) n
 by_rest n u q r e l Ordering.lt a b c = let h : r * 2 ≤ u = a tt in (omega arith, omega arith)
 by_rest n u q r e l Ordering.eq a b c =

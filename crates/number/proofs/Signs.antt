@@ -1,5 +1,6 @@
 -- Laws of the float operations under a change of sign, which holds of sums but for the sign of a zero (`Like`). Assumes nothing.
-use Rattle.std.proofs.Common.{◌≡◌, ℕ, zero, suc, ◌+◌, ◌-◌, ◌*◌, ◌^◌, ◌≤◌, Bool, true, false, cond, not, T, eqb, ltb, pos, refl, ap, ◌∙◌, zero-mul, sub-eq-zero_of_le, nltb→le}
+use Rattle.std.proofs.Common.{◌≡◌, ℕ, zero, suc, ◌+◌, ◌-◌, ◌*◌, ◌^◌, ◌≤◌, Bool, true, false, cond, not, T, eqb, ltb, pos, refl, ap, ◌∙◌, zero-mul}
+use Rattle.std.proofs.Common.{sub-eq-zero_of_le, nltb→le}
 use Prim.Native.Nat.compare
 use Prim.Native.Nat.{compare}
 use native.Mathlib.Nat.{zero-div, zero-mod}

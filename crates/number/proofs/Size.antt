@@ -1,5 +1,6 @@
 -- What the tests of `fabsf` and of `is_finite` say of a float; and that two finite floats that are `Same` compare as equal. Assumes nothing.
-use Rattle.std.proofs.Common.{◌≡◌, ℕ, zero, suc, ◌+◌, ◌-◌, ◌*◌, ◌^◌, ◌<◌, Bool, true, false, cond, not, ◌&&◌, ◌||◌, T, eqb, ltb, ℤ, pos, negsuc, sym, refl, ap, ◌∙◌, subst, true≢false, add-zero, zero-lt-suc, mul-pos, one-mul, zero-mul, mul-one, arith, eqb→eq, pow_pos, lt-ltb}
+use Rattle.std.proofs.Common.{◌≡◌, ℕ, zero, suc, ◌+◌, ◌-◌, ◌*◌, ◌^◌, ◌<◌, Bool, true, false, cond, not, ◌&&◌, ◌||◌, T, eqb, ltb, ℤ, pos, negsuc, sym, refl, ap}
+use Rattle.std.proofs.Common.{◌∙◌, subst, true≢false, add-zero, zero-lt-suc, mul-pos, one-mul, zero-mul, mul-one, arith, eqb→eq, pow_pos, lt-ltb}
 use mathlib.Core.Bool.{beq, false≢true}
 use native.Mathlib.Nat.{sub_self, pow-succ'}
 use lib.Dec.{eqb_refl, leb-zero, leb-suc-suc, leb-suc-zero}

@@ -1,6 +1,7 @@
 -- A finite f32 is a whole number of units of 2 ^ -149, the smallest f32. Products, sums and reciprocals in these units, and how near they lie to the
 -- exact ones. Assumes nothing.
-use Rattle.std.proofs.Common.{◌≡◌, ℕ, ◌+◌, ◌*◌, ◌^◌, ◌<◌, ◌≤◌, Bool, true, false, T, sym, refl, ap, ◌∙◌, subst, ap₂, true≢false, mul-pos, le_of_mul-le-mul_right, arith, pow_pos, ne_eqb}
+use Rattle.std.proofs.Common.{◌≡◌, ℕ, ◌+◌, ◌*◌, ◌^◌, ◌<◌, ◌≤◌, Bool, true, false, T, sym, refl, ap, ◌∙◌, subst, ap₂, true≢false, mul-pos}
+use Rattle.std.proofs.Common.{le_of_mul-le-mul_right, arith, pow_pos, ne_eqb}
 use mathlib.Core.Bool.{false≢true}
 use native.Mathlib.Nat.{mul-mul-mul_comm}
 use lib.Ieee.{Float, nan, inf, fin, binary32, fits, up, down, unlike, round, add, sum, mul, div}

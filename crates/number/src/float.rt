@@ -7,7 +7,7 @@ ghost use Rattle.number.specs.Same.{fabsf_of};
 // The largest finite f32.
 pub const MAX: f32 = 340282350000000000000000000000000000000.0;
 
-// The size of x: its sign dropped, a zero's too.
+// The size of x: its sign dropped, a zero's too. It is worked out here, as the root is, and not taken from a library.
 pub fn fabsf(x: f32) -> f32
     ensures { result ≡ fabsf_of x }
 {
@@ -30,7 +30,7 @@ pub fn is_larger(x: f32, limit: f32) -> bool
     x > limit
 }
 
-// Neither NaN nor infinite: only of those two is x - x a NaN.
+// Neither NaN nor infinite: only of those two is x - x a NaN. The library compares with 0.0, in five instructions of an x86-64 for three.
 pub fn is_finite(x: f32) -> bool
     ensures { result ≡ finite x }
 {

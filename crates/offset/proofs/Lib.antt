@@ -1,4 +1,5 @@
 -- in reading order
+pub mod Marked  -- the mark that bytes start with
 pub mod Storable  -- what a record may hold
 pub mod Accepting  -- what an accepted record has, and an accepted write
 pub mod Refusing  -- of every call each number is given exactly when its row says

@@ -8,7 +8,8 @@ use Rattle.answer.specs.Refusals.{Check, refusal_of, accepted}
 use Rattle.answer.proofs.Tests.{both}
 use Rattle.answer.proofs.Answering.{is_new, twice}
 use Rattle.bias.specs.declared.Bias.{Bias}
-use Rattle.bias.specs.declared.Change.{Change}
+use Rattle.answer.specs.declared.change.Change.{Change}
+use Rattle.answer.specs.Rows.{number_in}
 use Rattle.bias.specs.Estimator.{finite_bias}
 use Rattle.vector.specs.Vectors.{finite_vector}
 use Rattle.bias.specs.Settings.{finite_settings}
@@ -54,7 +55,7 @@ restored_once = once_by restore_checks (λ b s m e. good_passes _ _ s m _ (good_
 -- ---- again, and only the offset, by whatever checks
 
 module _ (checks : Bias → List ℕ → ℕ → List Check) where
-  pub restored_offset : (b : Bias) (s : List ℕ) (m : ℕ) (r : Change) → RestoresBy checks b s m r → r.number ≡ 0
+  pub restored_offset : (b : Bias) (s : List ℕ) (m : ℕ) (r : Change Bias) → RestoresBy checks b s m r → number_in r.result ≡ 0
       → r.state.offset ≡ reframed_of (vector_at s) (mounting_at s) m
   restored_offset b s m r p z = ap (λ (x : Bias). x.offset) (is_new _ _ p.holds (sym p.number ∙ z))
 

@@ -8,9 +8,10 @@ use lib.Dec.{T}
 use lib.ListN.{length}
 use lib.Ieee.{Float, binary32, fits}
 use lib.Ieee.Bits.{to_bits-lt}
+use Rattle.answer.specs.Said.{alone}
 use Rattle.answer.specs.Refusals.{refusal_of}
 use Rattle.answer.proofs.Tests.{three}
-use Rattle.answer.proofs.Answering.{gives, is_new}
+use Rattle.answer.proofs.Answering.{gives_result, is_new}
 use Rattle.number.specs.Same.{plain}
 use Rattle.number.proofs.Same.{same_finite}
 use Rattle.number.proofs.Plain.{plain_fits, plain_plain}
@@ -18,8 +19,7 @@ use Rattle.vector.specs.declared.Vector.{Vector}
 use Rattle.vector.specs.Vectors.{Singles, finite_vector}
 use Rattle.wire.specs.Wire.{bits_of}
 use Rattle.offset.specs.declared.Offset.{Offset}
-use Rattle.offset.specs.declared.RecordRead.TheVariants.{Refused}
-use Rattle.offset.specs.Record.{offset_at, record_said, bytes_of, float_bytes, record_of, write_checks}
+use Rattle.offset.specs.Record.{offset_at, bytes_of, float_bytes, record_of, write_checks}
 use Rattle.offset.specs.OneRecord.{Bytes, plain_vector, SameOffset, Holds, SameBytes, SameNumbers, OneRecord}
 use Rattle.offset.proofs.Accepting.{good_passes}
 use Rattle.offset.proofs.ReadWritten.{same_offset, written_good}
@@ -110,7 +110,7 @@ module _ (o : Offset) (f : Singles o.vector) (m : o.mounting < 24) where
       let z = good_passes _ _ (record_of o) 0 true (written_good o f m e) in
       let same = same_offset o f in (
         offset_at (record_of o),
-        gives record_said Refused (λ n. refl) _ _ refl (sym z) refl refl,
+        gives_result alone _ _ (sym z) refl,
         with_plus_zeros o (offset_at (record_of o)) (ap (λ (q : Offset). q.mounting) same) (ap (λ (q : Offset). q.vector) same),
       )
 

@@ -15,7 +15,7 @@ use Rattle.vector.specs.Vectors.{Singles, finite_vector}
 use Rattle.wire.specs.Wire.{bits_of}
 use Rattle.wire.proofs.Laws.{digits}
 use Rattle.offset.specs.declared.Offset.{Offset}
-use Rattle.offset.specs.declared.RecordRead.TheVariants.{Read}
+use Rattle.std.specs.declared.result.Result.TheVariants.{Ok}
 use Rattle.offset.specs.Record.{has_mark, storable_vector, vector_at, offset_at, record_of, record_length, record_version, Reads}
 use Rattle.offset.specs.OneRecord.{plain_vector, ReadWritten}
 use Rattle.offset.proofs.Storable.{storable_plains}
@@ -56,4 +56,4 @@ read_written o s after r f w e =
     let e' = subst (λ (t : List ℕ). Reads t r) there e in
     let writes = writable o (length s) (sym w.number) in
     let z = good_passes _ _ (record_of o) 0 true (written_good o f writes.mounting writes.floats) in
-    is_new _ _ e'.exact z ∙ ap Read (same_offset o f)
+    is_new _ _ e'.exact z ∙ ap Ok (same_offset o f)

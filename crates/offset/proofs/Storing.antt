@@ -1,9 +1,9 @@
 -- The stores into 18 bytes leave the record. Assumes nothing.
 use Prim.Native.Nat.{ℕ}
 use mathlib.Core.Path.{◌≡◌, ap, ◌∙◌}
-use mathlib.Core.List.{List}
+use mathlib.Core.List.{List, ◌∷◌}
 use lib.Dec.{T}
-use lib.ListN.{length, set}
+use lib.ListN.{length, set, drop}
 use lib.Ieee.{Float, binary32, fits, of_bits}
 use Rattle.number.specs.Float32.{◌⊕◌, zero}
 use Rattle.number.specs.Same.{plain}
@@ -15,7 +15,7 @@ use Rattle.offset.specs.declared.Offset.{Offset}
 use Rattle.offset.specs.Record.{record_of}
 
 abbrev pub marked : List ℕ → List ℕ
-marked s = set (set (set s 0 0x47) 1 0x4F) 2 0x46
+marked s = 0x47 ∷ 0x4F ∷ 0x46 ∷ drop 3 s
 
 -- in the code's order
 abbrev stores : Offset → List ℕ → List ℕ

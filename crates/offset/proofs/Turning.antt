@@ -4,7 +4,10 @@ use native.Mathlib.Omega.{arith}
 use mathlib.Core.Path.{◌≡◌, ap, ◌∙◌}
 use mathlib.Core.Bool.{true, not}
 use borrow.Author.Tests.{le-ltb}
+use Rattle.std.specs.declared.result.Result.{Result}
+use Rattle.std.specs.declared.result.Result.TheVariants.{Ok}
 use Rattle.answer.specs.declared.Answer.{Answer}
+use Rattle.answer.specs.declared.refusal.Refusal.{Refusal}
 use Rattle.answer.specs.Promises.{Answers}
 use Rattle.answer.proofs.Answering.{passes, all_pass, is_new}
 use Rattle.vector.specs.declared.Vector.{Vector}
@@ -12,8 +15,6 @@ use Rattle.vector.specs.Vectors.{finite_vector}
 use Rattle.vector.specs.Mounting.{mounting_of, turn_of}
 use Rattle.vector.specs.Turned.{turn_checks, turned_answer}
 use Rattle.vector.proofs.Turning.{each_permutes, turned_turn, finite_turned}
-use Rattle.remap.specs.declared.MountingRead.{MountingRead}
-use Rattle.remap.specs.declared.MountingRead.TheVariants.{Number, Refused}
 use Rattle.remap.specs.Composition.{inverse_of, inverse_checks}
 use Rattle.remap.specs.Given.{Gives}
 use Rattle.remap.proofs.Composing.{undone}
@@ -31,15 +32,11 @@ turn_finite m v = finite_turned (mounting_of m) (each_permutes m) (turned_turn (
 
 -- ---- undone, and then turned
 
-module _ {n : ℕ} {r : MountingRead} (h : n < 24) (g : Gives (inverse_checks n) (inverse_of n) r) where
-  is_inverse : r ≡ Number (inverse_of n)
-  is_inverse = is_new _ _ g.exact (passes 4 _ (le-ltb 23 n (omega arith)) ∙ all_pass)
+pub is_inverse : {n : ℕ} {r : Result ℕ Refusal} → n < 24 → Gives (inverse_checks n) (inverse_of n) r → r ≡ Ok (inverse_of n)
+is_inverse {n} h g = is_new _ _ g.exact (passes 4 _ (le-ltb 23 n (omega arith)) ∙ all_pass)
 
-  pub no_refusal : {k : ℕ} → r ≡ Refused k → ⊥
-  no_refusal e = let i = is_inverse in let z : ◌≡◌ {A = ℕ} 0 1 = cc in omega arith
-
-  pub inverse_number : {i : ℕ} → r ≡ Number i → i ≡ inverse_of n
-  inverse_number e = let j = is_inverse in cc
+pub inverse_number : {n : ℕ} {r : Result ℕ Refusal} {i : ℕ} → n < 24 → Gives (inverse_checks n) (inverse_of n) r → r ≡ Ok i → i ≡ inverse_of n
+inverse_number h g e = let j = is_inverse h g in cc
 
 pub inverse_below : {n i : ℕ} (v : Vector) → n < 24 → i ≡ inverse_of n → i < 24
 inverse_below {n} v h e = omega (arith, (undone n v h).0)

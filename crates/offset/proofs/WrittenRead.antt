@@ -17,7 +17,9 @@ use Rattle.answer.proofs.Answering.{passes, all_pass, is_new}
 use Rattle.wire.specs.Wire.{bits_at, float_of, bits_of}
 use Rattle.wire.proofs.Laws.{finite_no_nan, spell, spelled}
 use Rattle.offset.specs.declared.Offset.{Offset}
-use Rattle.offset.specs.declared.RecordRead.TheVariants.{Read}
+use Rattle.std.specs.declared.result.Result.TheVariants.{Ok}
+use Rattle.answer.specs.declared.refusal.Refusal.{Refusal}
+use Rattle.std.specs.declared.result.Result.{Result}
 use Rattle.offset.specs.Record.{has_mark, mounting_at, vector_at, offset_at, storable, storable_vector, Reads}
 use Rattle.offset.specs.Record.{record_length, record_version, write_checks, bytes_of, float_bytes, record_of}
 use Rattle.offset.specs.OneRecord.{Bytes, WrittenRead}
@@ -79,12 +81,12 @@ read_passes s room g h =
     ∙ passes 5 _ (ap not (storable_finites (vector_at s) g.floats))
     ∙ all_pass
 
-module _ (s : List ℕ) (o : Offset) (e : Reads s (Read o)) where
+module _ (s : List ℕ) (o : Offset) (e : Reads s (Ok o)) where
   pub read_good : Good record_length record_version s 0 true
   read_good = good _ _ s 0 true (sym e.number)
 
   pub read_offset : o ≡ offset_at s
-  read_offset = let q : Read o ≡ Read (offset_at s) = is_new _ _ e.exact (sym e.number) in cc
+  read_offset = let q : ◌≡◌ {A = Result Offset Refusal} (Ok o) (Ok (offset_at s)) = is_new _ _ e.exact (sym e.number) in cc
 
 pub written_read : WrittenRead
 written_read s before after o n bytes h e w =

@@ -8,48 +8,51 @@ use lib.ListN.{get_or, set}
 use lib.Ieee.{Float, nan, inf, fin, neg, of_bits, to_bits}
 use Rattle.number.specs.Same.{plain, is_minus_zero}
 use Rattle.number.proofs.Apart.{unlike, nought, minus_nought, one, half}
-use Rattle.answer.specs.Refusals.{refusal_of}
+use Rattle.std.specs.declared.result.Result.{Result}
+use Rattle.std.specs.declared.result.Result.TheVariants.{Ok, Err}
+use Rattle.answer.specs.declared.change.Change.{Change}
+use Rattle.answer.specs.declared.refusal.Refusal.{Refusal}
+use Rattle.answer.specs.declared.refusal.Refusal.TheVariants.{Version, NotFinite}
+use Rattle.answer.specs.Refusals.{refusal_of, accepted}
+use Rattle.answer.specs.Rows.{refusal_at}
 use Rattle.vector.specs.Vectors.{vector, finite_vector}
 use Rattle.vector.specs.Mounting.{mounting_of}
 use Rattle.remap.specs.First.{first}
 use Rattle.remap.specs.Names.{name_of, same}
 use Rattle.remap.specs.Composition.{compose_of, inverse_of}
 use Rattle.bias.specs.declared.Bias.{Bias}
-use Rattle.bias.specs.declared.Change.{Change}
 use Rattle.bias.specs.Estimator.{finite_bias, with_timer, with_offset}
 use Rattle.bias.specs.Settings.{finite_settings}
 use Rattle.offset.specs.declared.Offset.{Offset}
-use Rattle.offset.specs.declared.RecordRead.{RecordRead}
-use Rattle.offset.specs.declared.RecordRead.TheVariants.{Read, Refused}
 use Rattle.offset.specs.Record.{has_mark, vector_at, storable, storable_vector, record_of, record_checks, Reads, Writes}
 use Rattle.offset.specs.Restore.{reframed_of, Restores}
 use Rattle.offset.proofs.Bench.{minus_two, record_with, row, row_offset, running, zero_row, minus_row}
 
 -- version 2 taken as 1, and 1 as 2; 18 bytes taken for 34; another mounting of 24 taken; the caller's floats not looked at
-pub of_record_refusal
+pub of_check_record
     : (0 ≡ refusal_of (record_checks 18 1 (set row 3 2) 0 true) → ⊥)
     × (0 ≡ refusal_of (record_checks 18 2 row 0 true) → ⊥)
     × (0 ≡ refusal_of (record_checks 34 1 row 0 true) → ⊥)
     × (0 ≡ refusal_of (record_checks 18 1 row 24 true) → ⊥)
     × (0 ≡ refusal_of (record_checks 18 1 row 0 false) → ⊥)
 unfolding refusal_of record_checks has_mark vector_at storable_vector storable is_minus_zero of_bits
-of_record_refusal = (λ h. omega arith, λ h. omega arith, λ h. omega arith, λ h. omega arith, λ h. omega arith)
+of_check_record = (λ h. omega arith, λ h. omega arith, λ h. omega arith, λ h. omega arith, λ h. omega arith)
 
-abbrev mounting_in : RecordRead → ℕ
-mounting_in (Read o) = o.mounting
-mounting_in (Refused n) = 0
+abbrev mounting_in : Result Offset Refusal → ℕ
+mounting_in (Ok o) = o.mounting
+mounting_in (Err e) = 0
 
 -- the mounting left out; mounting 24 taken; a record of version 2 taken; one of version 1 refused for it; a number that no check gives;
 -- a minus zero taken as whatever it be, on each axis
 pub of_read_offset
-    : (Reads row (Read (record { mounting = 0; vector = vector one minus_two half })) → ⊥)
-    × (Reads (record_with 24 (0x3F ∷ [])) (Read (record { mounting = 24; vector = vector one minus_two half })) → ⊥)
-    × (Reads (set row 3 2) (Read row_offset) → ⊥)
-    × (Reads row (Refused 3) → ⊥)
-    × (Reads row (Refused 5) → ⊥)
-    × ((o : Offset) → Reads (minus_row 0) (Read o) → ⊥)
-    × ((o : Offset) → Reads (minus_row 1) (Read o) → ⊥)
-    × ((o : Offset) → Reads (minus_row 2) (Read o) → ⊥)
+    : (Reads row (Ok (record { mounting = 0; vector = vector one minus_two half })) → ⊥)
+    × (Reads (record_with 24 (0x3F ∷ [])) (Ok (record { mounting = 24; vector = vector one minus_two half })) → ⊥)
+    × (Reads (set row 3 2) (Ok row_offset) → ⊥)
+    × (Reads row (Err Version) → ⊥)
+    × (Reads row (Err NotFinite) → ⊥)
+    × ((o : Offset) → Reads (minus_row 0) (Ok o) → ⊥)
+    × ((o : Offset) → Reads (minus_row 1) (Ok o) → ⊥)
+    × ((o : Offset) → Reads (minus_row 2) (Ok o) → ⊥)
 unfolding refusal_of record_checks has_mark vector_at storable_vector storable is_minus_zero of_bits
 of_read_offset = (
   λ h. unlike 0 11 refl (ap mounting_in h.exact),
@@ -89,8 +92,9 @@ of_write_offset = (
   λ h. let e = h.number in omega arith,
 )
 
-abbrev gives : Bias → ℕ → Change
-gives b n = record { state = b; number = n }
+-- by a number, 0 of no refusal
+abbrev gives : Bias → ℕ → Change Bias
+gives b n = record { state = b; result = accepted n (Ok tt) (Err (refusal_at n)) }
 
 -- 1 for a number with a minus sign
 abbrev minus : Float → ℕ

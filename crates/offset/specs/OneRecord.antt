@@ -1,12 +1,13 @@
 -- 02's P4: one offset, as numbers, and mounting have one record, and equal records mean equal offsets. What was written is read with plus zeros,
 -- and what was read is written as it was.
 use Rattle.std.specs.Prelude.{ℕ, ◌<◌, ◌≡◌, true, List, length, get_or}
+use Rattle.std.specs.declared.result.Result.{Result}
+use Rattle.std.specs.declared.result.Result.TheVariants.{Ok}
+use Rattle.answer.specs.declared.refusal.Refusal.{Refusal}
 use Rattle.number.specs.Same.{plain, Same}
 use Rattle.vector.specs.declared.Vector.{Vector}
 use Rattle.vector.specs.Vectors.{Singles, vector, finite_vector}
 use Rattle.offset.specs.declared.Offset.{Offset}
-use Rattle.offset.specs.declared.RecordRead.{RecordRead}
-use Rattle.offset.specs.declared.RecordRead.TheVariants.{Read}
 use Rattle.offset.specs.Record.{record_length, Reads, Writes}
 
 -- a list of bytes, as every `&[u8]` of the code is
@@ -28,7 +29,7 @@ pub record SameOffset (o p : Offset) : Type 0 where
 
 -- s is accepted, and holds o as numbers
 abbrev pub Holds : List ℕ → Offset → Type 0
-Holds s o = (p : Offset) × Reads s (Read p) × SameOffset p o
+Holds s o = (p : Offset) × Reads s (Ok p) × SameOffset p o
 
 -- ---- one record
 
@@ -54,11 +55,11 @@ OneRecord =
 -- whatever offset a call has written, a call that reads the buffer gives back with plus zeros
 abbrev pub ReadWritten : Type 0
 ReadWritten =
-    (o : Offset) (s after : List ℕ) (r : RecordRead) → Singles o.vector
-    → Writes o s after 0 → Reads after r → r ≡ Read (record { mounting = o.mounting; vector = plain_vector o.vector })
+    (o : Offset) (s after : List ℕ) (r : Result Offset Refusal) → Singles o.vector
+    → Writes o s after 0 → Reads after r → r ≡ Ok (record { mounting = o.mounting; vector = plain_vector o.vector })
 
 -- whatever offset a call has read, a call that writes it where it has room writes the bytes that were read
 abbrev pub WrittenRead : Type 0
 WrittenRead =
     (s before after : List ℕ) (o : Offset) (n : ℕ) → Bytes s → length before ≡ record_length
-    → Reads s (Read o) → Writes o before after n → (n ≡ 0) × (after ≡ s)
+    → Reads s (Ok o) → Writes o before after n → (n ≡ 0) × (after ≡ s)

@@ -1,17 +1,17 @@
 -- 01, "Bias", and 02's P4: the offset record, 18 bytes: `GOF`, a 16-bit version, a mounting byte, three f32, all little-endian; written and read.
 -- A zero stands in it with a plus sign.
+use Rattle.answer.specs.Said.{alone}
 use Rattle.std.specs.Prelude.{ℕ, ◌/◌, ◌%◌, Bool, true, not, ◌&&◌, ◌||◌, List, [], ◌∷◌, ◌++◌, ltb, eqb, length, get_or, Float}
 use Rattle.std.specs.Float.Ieee.Scale.{finite}
+use Rattle.std.specs.declared.result.Result.{Result}
+use Rattle.answer.specs.declared.refusal.Refusal.{Refusal}
 use Rattle.answer.specs.Refusals.{Check, check}
-use Rattle.answer.specs.Said.{Said, values, refusal}
-use Rattle.answer.specs.Promises.{Answered, Changed}
+use Rattle.answer.specs.Promises.{Results, Changed}
 use Rattle.number.specs.Same.{plain, is_minus_zero}
 use Rattle.vector.specs.declared.Vector.{Vector}
 use Rattle.vector.specs.Vectors.{vector, finite_vector}
 use Rattle.wire.specs.Wire.{u16_at, bits_at, float_of, bits_of}
 use Rattle.offset.specs.declared.Offset.{Offset}
-use Rattle.offset.specs.declared.RecordRead.{RecordRead}
-use Rattle.offset.specs.declared.RecordRead.TheVariants.{Read, Refused}
 
 -- ---- what bytes hold
 
@@ -58,12 +58,8 @@ record_version = 1
 abbrev pub read_checks : List ℕ → List Check
 read_checks s = record_checks record_length record_version s 0 true
 
-abbrev pub record_said : RecordRead → Said Offset
-record_said (Read o) = values (o ∷ [])
-record_said (Refused n) = refusal n
-
-abbrev pub Reads : List ℕ → RecordRead → Type 0
-Reads s r = Answered record_said Refused (read_checks s) (Read (offset_at s)) r
+abbrev pub Reads : List ℕ → Result Offset Refusal → Type 0
+Reads s r = Results alone (read_checks s) (offset_at s) r
 
 -- ---- writing
 

@@ -6,9 +6,11 @@ pub mod restoring; // restoring.rt: restore
 
 ghost use Rattle.std.specs.Prelude.{◌≡◌, length};
 ghost use Rattle.answer.specs.Refusals.{refusal_of};
+ghost use Rattle.answer.specs.Rows.{number_in};
 ghost use Rattle.wire.specs.Wire.{float_of};
 ghost use Rattle.offset.specs.Record.{has_mark, storable, storable_vector, vector_at, offset_at, record_of, record_checks, write_checks, Reads, Writes};
 
+use answer::Refusal;
 pub use restoring::restore;
 use vector::Vector;
 
@@ -18,27 +20,34 @@ pub const LENGTH: usize = 18;
 // Its version.
 pub const VERSION: u16 = 1;
 
-// An offset, in the frame of a mounting.
-#[derive(Clone, Copy)]
+// What a record is held to before it is read: how many bytes it has, and its version.
+#[derive(Clone, Copy, Debug, PartialEq, Eq)]
+pub struct Layout {
+    pub size: usize,
+    pub version: u16,
+}
+
+pub const LAYOUT: Layout = Layout {
+    size: LENGTH,
+    version: VERSION,
+};
+
+// An offset, in the frame of a mounting, by a number that may be any: `write_offset` refuses what is no mounting's.
+#[derive(Clone, Copy, Debug, PartialEq)]
 pub struct Offset {
     pub mounting: u8,
     pub vector: Vector,
 }
 
-// What a record holds, or a refusal's number.
-#[derive(Clone, Copy)]
-pub enum RecordRead {
-    Read(Offset),
-    Refused(u8),
-}
+// What a record begins with.
+const MARK: [u8; 3] = *b"GOF";
 
-// Whether the record begins with `GOF`.
+// Whether it does.
+#[tactic(auto, using(crate::proofs::Marked::marked))]
 fn has_mark(bytes: &[u8]) -> bool
     ensures { result ≡ has_mark bytes.now }
 {
-    (wire::u8_at(bytes, 0) == b'G')
-        & (wire::u8_at(bytes, 1) == b'O')
-        & (wire::u8_at(bytes, 2) == b'F')
+    bytes.starts_with(&MARK)
 }
 
 // Whether a record may hold a float, by its bits: a float is made only of bits that passed.
@@ -49,6 +58,7 @@ fn is_storable(bits: u32) -> bool
 }
 
 // Whether it may hold the three that it does.
+#[tactic(auto, unfolding(crate::specs::Record::storable_vector, crate::specs::Record::vector_at))]
 fn are_storable(bytes: &[u8]) -> bool
     ensures { result ≡ storable_vector (vector_at bytes.now) }
 {
@@ -57,50 +67,50 @@ fn are_storable(bytes: &[u8]) -> bool
         & is_storable(wire::bits_at(bytes, 14))
 }
 
-// The number of a record's checks, of whatever length and version, beside one more mounting number and whether the caller's own floats are finite.
-pub fn record_refusal(bytes: &[u8], length: usize, version: u16, mounting: u8, finite: bool) -> u8
-    ensures { result ≡ refusal_of (record_checks length version bytes.now mounting finite) }
+// A record's checks, by whatever layout, beside one more mounting number and whether the caller's own floats are finite.
+#[tactic(auto, unfolding(answer::specs::Refusals::refusal_of, crate::specs::Record::record_checks))]
+pub fn check_record(bytes: &[u8], layout: Layout, mounting: u8, finite: bool) -> Result<(), Refusal>
+    ensures { number_in result ≡ refusal_of (record_checks layout.size layout.version bytes.now mounting finite) }
 {
-    if bytes.len() != length {
-        return 1;
+    if bytes.len() != layout.size {
+        return Err(Refusal::Length);
     }
     if !has_mark(bytes) {
-        return 2;
+        return Err(Refusal::Mark);
     }
-    if wire::u16_at(bytes, 3) != version {
-        return 3;
+    if wire::u16_at(bytes, 3) != layout.version {
+        return Err(Refusal::Version);
     }
     if (mounting > 23) | (wire::u8_at(bytes, 5) > 23) {
-        return 4;
+        return Err(Refusal::Unknown);
     }
     if !(finite & are_storable(bytes)) {
-        return 5;
+        return Err(Refusal::NotFinite);
     }
-    0
+    Ok(())
 }
 
 // What an accepted record holds.
+#[tactic(auto, unfolding(crate::specs::Record::vector_at))]
 fn offset_at(bytes: &[u8]) -> Offset
     ensures { result ≡ offset_at bytes.now }
 {
-    let x = wire::float_of(wire::bits_at(bytes, 6));
-    let y = wire::float_of(wire::bits_at(bytes, 10));
-    let z = wire::float_of(wire::bits_at(bytes, 14));
-    let mounting = wire::u8_at(bytes, 5);
-    let vector = Vector::new(x, y, z);
-    Offset { mounting, vector }
+    Offset {
+        mounting: wire::u8_at(bytes, 5),
+        vector: Vector::new(
+            wire::float_at(bytes, 6),
+            wire::float_at(bytes, 10),
+            wire::float_at(bytes, 14),
+        ),
+    }
 }
 
 // The offset that a record holds.
-pub fn read_offset(bytes: &[u8]) -> RecordRead
+pub fn read_offset(bytes: &[u8]) -> Result<Offset, Refusal>
     ensures { Reads bytes.now result }
 {
-    let number = record_refusal(bytes, LENGTH, VERSION, 0, true);
-    if number != 0 {
-        return RecordRead::Refused(number);
-    }
-    let offset = offset_at(bytes);
-    RecordRead::Read(offset)
+    check_record(bytes, LAYOUT, 0, true)?;
+    Ok(offset_at(bytes))
 }
 
 // Stores the record where it has just room. x + 0.0 is x with a plus zero for a minus zero.
@@ -109,9 +119,7 @@ fn put_offset(offset: Offset, bytes: &mut [u8])
     ensures { bytes.new ≡ record_of offset }
 {
     let vector = offset.vector;
-    bytes[0] = b'G';
-    bytes[1] = b'O';
-    bytes[2] = b'F';
+    bytes[0..3].copy_from_slice(&MARK);
     wire::put_u16(bytes, 3, VERSION);
     bytes[5] = offset.mounting;
     wire::put_bits(bytes, 6, wire::bits_of(vector.x + 0.0));
@@ -119,31 +127,28 @@ fn put_offset(offset: Offset, bytes: &mut [u8])
     wire::put_bits(bytes, 14, wire::bits_of(vector.z + 0.0));
 }
 
-// The number of a write's checks, of what is written and of the room for it.
-fn write_refusal(offset: Offset, room: usize) -> u8
-    ensures { result ≡ refusal_of (write_checks offset room) }
+// A write's checks, of what is written and of the room for it.
+#[tactic(auto, unfolding(answer::specs::Refusals::refusal_of))]
+fn check_write(offset: Offset, room: usize) -> Result<(), Refusal>
+    ensures { number_in result ≡ refusal_of (write_checks offset room) }
 {
     if room != LENGTH {
-        return 1;
+        return Err(Refusal::Length);
     }
     if offset.mounting > 23 {
-        return 4;
+        return Err(Refusal::Unknown);
     }
-    let vector = offset.vector;
-    if !vector.is_finite() {
-        return 5;
+    if !offset.vector.is_finite() {
+        return Err(Refusal::NotFinite);
     }
-    0
+    Ok(())
 }
 
 // Writes the record of an offset; a refused call leaves the buffer as it was.
-pub fn write_offset(offset: Offset, bytes: &mut [u8]) -> u8
-    ensures { Writes offset bytes.old bytes.new result }
+pub fn write_offset(offset: Offset, bytes: &mut [u8]) -> Result<(), Refusal>
+    ensures { Writes offset bytes.old bytes.new (number_in result) }
 {
-    let number = write_refusal(offset, bytes.len());
-    if number != 0 {
-        return number;
-    }
+    check_write(offset, bytes.len())?;
     put_offset(offset, bytes);
-    0
+    Ok(())
 }

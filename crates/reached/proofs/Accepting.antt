@@ -22,7 +22,7 @@ use Rattle.settings.specs.Limit.{finite_limit, sound_limit}
 use Rattle.settings.specs.Config.{known_convention, finite_settings, sound_settings, derived_of, finite_config, settings_checks}
 use Rattle.ahrs.specs.declared.Ahrs.{Ahrs}
 use Rattle.ahrs.specs.Filter.{finite_state, updated_of}
-use Rattle.ahrs.specs.Calls.{update_checks, change_checks, settable, quaternion_checks}
+use Rattle.ahrs.specs.Calls.{update_checks, change_checks, period_checks, settable, quaternion_checks}
 use Rattle.heading.specs.Turn.{finite_point, yaw_of, roll_of, headed_of}
 use Rattle.heading.specs.Calls.{headable, set_checks, external_of, external_checks, unaided_of, unaided_checks}
 use Rattle.reached.proofs.Timeouts.{product_cut}
@@ -74,6 +74,12 @@ change_accepted s t e =
       config = (passed 6 (finite_config (derived_of t)) [] p.1).0;
       timeout = timeout_cut t g p.0;
     }
+
+pub period_accepted : (s : Ahrs) (p : Float) → refusal_of (period_checks s p) ≡ 0 → finite p ≡ true
+period_accepted s p e =
+    let k = passed 3 (known_convention s.settings) _ e in
+    let f = passed 4 (finite_state s && finite p) _ k.1 in
+    (both (finite_state s) (finite p) f.0).1
 
 pub update_accepted : (s : Ahrs) (g a m : Vector) → refusal_of (update_checks s g a m) ≡ 0 → finite_state (updated_of s g a m) ≡ true
 update_accepted s g a m e =

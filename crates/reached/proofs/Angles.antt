@@ -7,9 +7,8 @@ use lib.Ieee.{Float}
 use lib.Ieee.Scale.{finite}
 use Rattle.number.specs.Float32 as float
 use Rattle.answer.specs.Refusals.{refusal_of, accepted}
-use Rattle.answer.specs.declared.Answer.TheVariants.{Refused}
+use Rattle.answer.specs.Answers.{refused}
 use Rattle.answer.specs.Runs.{Told, answer, number, step_of, run_of}
-use Rattle.answer.proofs.Running.{settled}
 use Rattle.vector.specs.declared.Vector.{Vector}
 use Rattle.vector.specs.Vectors.{zero_vector, finite_vector, mul_of}
 use Rattle.math.specs.declared.quaternion.Quaternion.{Quaternion}
@@ -28,13 +27,13 @@ use Rattle.ahrs.specs.Filter.{soft_restarted_of, overrange_of, half_feedback_of,
 use Rattle.ahrs.specs.Read.{gravity_of, linear_of, earth_of, flags_of, states_of}
 use Rattle.ahrs.specs.Calls.{update_checks, oriented_of, state_checks, change_checks, period_checks, quaternion_checks}
 use Rattle.heading.specs.Turn.{magnetometer_of}
-use Rattle.heading.specs.Calls.{with_heading, set_checks, external_of, external_checks, unaided_of, northed_of, unaided_checks}
+use Rattle.heading.specs.Calls.{with_heading, set_checks, external_checks, unaided_of, northed_of, unaided_checks}
 use Rattle.reached.specs.Runs.{Call, update, restart, skip_startup, set_settings, set_sample_period, set_quaternion, outline_of}
 use Rattle.reached.specs.Runs.{set_heading, update_external_heading, update_no_magnetometer}
 use Rattle.reached.specs.Angles.{squared_state, AlikeRun, none, next, FromTheLimitOn, ReadsAlike}
-use Rattle.reached.proofs.Headed.{northed}
 use Rattle.reached.proofs.Counting.{after_overrange}
-use Rattle.reached.proofs.Accepting.{start_accepted, change_accepted}
+use Rattle.reached.proofs.Accepting.{start_accepted}
+use Rattle.reached.proofs.Keeping as keeping
 
 -- ---- the squared limits of a state are finite where its limits are
 
@@ -109,7 +108,7 @@ alike zero s new own h = h
 alike (suc n) s new own h = refl
 
 abbrev oriented : ℕ → Ahrs → Told
-oriented n k = answer (accepted n (oriented_of k.quaternion) (Refused n))
+oriented n k = answer (accepted n (oriented_of k.quaternion) (refused n))
 
 module _ (s : Ahrs) (h : Fit s) where
   update_number : (g a m : Vector) → refusal_of (update_checks (squared_state s) g a m) ≡ refusal_of (update_checks s g a m)
@@ -173,20 +172,17 @@ module _ (s : Ahrs) (h : Fit s) where
 
   stays_fit : (c : Call) → Fit (step_of outline_of s c).state
   unfolding fresh_of skipped_startup with_settings with_sample_period with_quaternion
-  stays_fit (update g a m) = settled Fit (refusal_of (update_checks s g a m)) (updated_of s g a m) s h (λ e. updated_fit s h g a m)
-  stays_fit restart = settled Fit (refusal_of (state_checks s)) (restarted_of s) s h (λ e. h)
-  stays_fit skip_startup = settled Fit (refusal_of (state_checks s)) (skipped_startup s) s h (λ e. h)
-  stays_fit (set_settings t) =
-      settled Fit (refusal_of (change_checks s t)) (with_settings s t (derived_of t)) s h
-      (λ e. let a = change_accepted s t e in accepted_fit t a.finite a.sound)
-  stays_fit (set_sample_period p) = settled Fit (refusal_of (period_checks s p)) (with_sample_period s p) s h (λ e. h)
-  stays_fit (set_quaternion q) = settled Fit (refusal_of (quaternion_checks s q)) (with_quaternion s q) s h (λ e. h)
-  stays_fit (set_heading x) = settled Fit (refusal_of (set_checks s x)) (with_heading s x) s h (λ e. h)
-  stays_fit (update_external_heading g a x) =
-      settled Fit (refusal_of (external_checks s g a x)) (external_of s g a x) s h (λ e. updated_fit s h g a (magnetometer_of s.quaternion x))
-  stays_fit (update_no_magnetometer g a) =
-      settled Fit (refusal_of (unaided_checks s g a)) (northed_of (unaided_of s g a)) s h
-      (λ e. northed Fit (unaided_of s g a) (updated_fit s h g a zero_vector) (λ t. updated_fit s h g a zero_vector))
+  stays_fit c =
+      keeping.after_call Fit s h c
+      (record {
+        updated = λ g a m f. updated_fit s h g a m;
+        restarted = h;
+        skipped = h;
+        settings = λ t e a. accepted_fit t a.finite a.sound;
+        period = λ p f. h;
+        quaternion = λ q e f. h;
+        headed = λ n k x f. k;
+      })
 
 -- ---- every run
 

@@ -66,8 +66,8 @@ abbrev skipped : List Call
 skipped = update still still still ∷ restart ∷ update still still still ∷ skip_startup ∷ update still still still ∷ []
 
 pub deaf : (reached_since magnetometer settings skipped ≡ true ∷ true ∷ []) × (reached_count magnetometer settings skipped ≡ 2)
-unfolding refusal_of finite_state finite_settings finite_config finite_quaternion finite_vector finite_rejection fresh_of derived_of limit_of reset_of skipped_startup
-    updated_of overrange_of over_of startup_gain_of half_feedback_of half_gravity_of half_west_of half_inclination_feedback_of half_heading_feedback_of skipped_of longer_of
-    rate_of integrated_of normalize_of norm_of norm_squared_of sqrt_of root_bits_of squared_of exponent_of significand_of nearest_root_of floor_root count_leading_zeros
-    eq ne lt add sub mul div neg sum round units odd of_bits to_bits
+unfolding refusal_of finite_state finite_settings finite_config finite_quaternion finite_vector finite_rejection fresh_of derived_of limit_of reset_of
+    skipped_startup updated_of overrange_of over_of startup_gain_of half_feedback_of half_gravity_of half_west_of half_inclination_feedback_of
+    half_heading_feedback_of skipped_of longer_of rate_of integrated_of normalize_of norm_of norm_squared_of sqrt_of root_bits_of squared_of exponent_of
+    significand_of nearest_root_of floor_root count_leading_zeros eq ne lt add sub mul div neg sum round units odd of_bits to_bits
 deaf = (refl, refl)

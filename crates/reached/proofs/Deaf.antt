@@ -10,7 +10,7 @@ use lib.Ieee.{Float, le}
 use borrow.Author.Tests.{le-ltb, ltb-true, ltb-false, ne_eqb}
 use Rattle.answer.specs.Refusals.{refusal_of, accepted}
 use Rattle.answer.specs.Runs.{step_of}
-use Rattle.answer.proofs.Running.{settled, untouched, kept}
+use Rattle.answer.proofs.Running.{untouched, kept}
 use Rattle.vector.specs.declared.Vector.{Vector}
 use Rattle.vector.specs.Vectors.{zero_vector, is_zero_of, norm_squared_of, cross_of, normalize_of, add_of}
 use Rattle.rejection.specs.declared.Updated.{Updated}
@@ -35,7 +35,8 @@ use Rattle.reached.specs.Runs.{set_heading, update_external_heading, update_no_m
 use Rattle.reached.specs.Deaf.{Sensor, accelerometer, magnetometer, of_sensor, mark_of, count_of, feedback_by, MarkTells}
 use Rattle.reached.specs.Deaf.{Effect, clears, updates, leaves, effect_of, effects_of, reached_of, since_of, in_aRow, used_or_none}
 use Rattle.reached.specs.Deaf.{at_most, reached_count, reached_since, HowLong, count_after, EachCall, Marked, StaysMarked}
-use Rattle.reached.proofs.Headed.{northed, as_read}
+use Rattle.reached.proofs.Keeping as keeping
+use Rattle.reached.proofs.Headed.{as_read}
 
 -- ---- one sensor
 
@@ -214,18 +215,17 @@ updated_marked s g a m k = agree (mark_of k (filter.updated_of s g a m)) _ ∙ a
 
 after_call : (s : Ahrs) → Marked s → (c : Call) → Marked (step_of outline_of s c).state
 unfolding skipped_startup with_settings with_threshold with_sample_period with_quaternion
-after_call s h (update g a m) = settled Marked (refusal_of (update_checks s g a m)) (filter.updated_of s g a m) s h (λ e. updated_marked s g a m)
-after_call s h (update_external_heading g a x) =
-    settled Marked (refusal_of (external_checks s g a x)) (external_of s g a x) s h (λ e. updated_marked s g a (magnetometer_of s.quaternion x))
-after_call s h (update_no_magnetometer g a) =
-    settled Marked (refusal_of (unaided_checks s g a)) (northed_of (unaided_of s g a)) s h
-    (λ e. northed Marked (unaided_of s g a) (updated_marked s g a zero_vector) (λ t. updated_marked s g a zero_vector))
-after_call s h restart = settled Marked (refusal_of (state_checks s)) (restarted_of s) s h (λ e. fresh_marked s)
-after_call s h skip_startup = settled Marked (refusal_of (state_checks s)) (skipped_startup s) s h (λ e. h)
-after_call s h (set_settings t) = settled Marked (refusal_of (change_checks s t)) (with_settings s t (derived_of t)) s h (λ e. h)
-after_call s h (set_sample_period p) = settled Marked (refusal_of (period_checks s p)) (with_sample_period s p) s h (λ e. h)
-after_call s h (set_quaternion q) = settled Marked (refusal_of (quaternion_checks s q)) (with_quaternion s q) s h (λ e. h)
-after_call s h (set_heading x) = settled Marked (refusal_of (set_checks s x)) (with_heading s x) s h (λ e. h)
+after_call s h c =
+    keeping.after_call Marked s h c
+    (record {
+      updated = λ g a m f. updated_marked s g a m;
+      restarted = fresh_marked s;
+      skipped = h;
+      settings = λ t e a. h;
+      period = λ p f. h;
+      quaternion = λ q e f. h;
+      headed = λ n k x f. k;
+    })
 
 pub stays_marked : StaysMarked
 unfolding fresh_of reset_of

@@ -4,11 +4,10 @@ use mathlib.Core.Bool.{Bool, true, false, cond, false≢true}
 use mathlib.Core.List.{List, [], ◌∷◌}
 use lib.IntN.{ℤ, pos}
 use lib.Ieee.{Float}
-use Rattle.answer.specs.Refusals.{refusal_of}
 use Rattle.answer.specs.Runs.{Step, step_of, run_of, Throughout}
-use Rattle.answer.proofs.Running.{settled, kept}
+use Rattle.answer.proofs.Running.{kept}
 use Rattle.vector.specs.declared.Vector.{Vector}
-use Rattle.vector.specs.Vectors.{zero_vector, is_zero_of}
+use Rattle.vector.specs.Vectors.{is_zero_of}
 use Rattle.rejection.specs.declared.Counts.{Counts}
 use Rattle.rejection.specs.Counts as counts
 use Rattle.rejection.specs.Inside.{NotBelow}
@@ -23,18 +22,14 @@ use Rattle.step.specs.declared.Rejection.{Rejection}
 use Rattle.step.specs.Sensor.{counts_of, reset_of, skipped_of, rejected_of, half_inclination_feedback_of, half_heading_feedback_of}
 use Rattle.step.specs.Rate.{startup_gain_of}
 use Rattle.ahrs.specs.declared.Ahrs.{Ahrs}
-use Rattle.ahrs.specs.Filter.{fresh_of, restarted_of, skipped_startup, with_threshold, with_settings, with_sample_period, with_quaternion}
+use Rattle.ahrs.specs.Filter.{fresh_of, skipped_startup, with_threshold, with_settings, with_sample_period, with_quaternion}
 use Rattle.ahrs.specs.Filter.{soft_restarted_of, overrange_of, updated_of}
-use Rattle.ahrs.specs.Calls.{update_checks, state_checks, change_checks, period_checks, quaternion_checks}
-use Rattle.heading.specs.Turn.{magnetometer_of}
-use Rattle.heading.specs.Calls.{with_heading, set_checks, external_of, external_checks, unaided_of, northed_of, unaided_checks}
-use Rattle.reached.specs.Runs.{Call, update, restart, skip_startup, set_settings, set_sample_period, set_quaternion, outline_of}
-use Rattle.reached.specs.Runs.{set_heading, update_external_heading, update_no_magnetometer}
+use Rattle.reached.specs.Runs.{Call, outline_of}
 use Rattle.reached.specs.Reached.{Sound}
 use Rattle.reached.specs.Deaf.{Sensor, accelerometer, magnetometer}
 use Rattle.reached.specs.Hearing.{rejection_of}
 use Rattle.reached.specs.Recovery.{FreshInStartup, StaysFresh}
-use Rattle.reached.proofs.Headed.{northed}
+use Rattle.reached.proofs.Keeping as keeping
 use Rattle.reached.proofs.Counting.{after_overrange}
 use Rattle.reached.proofs.Sound.{now_timeout}
 use Rattle.reached.proofs.Running as sound
@@ -97,20 +92,17 @@ startup_fresh s e = absurd (false≢true e)
 
 after_call : (s : Ahrs) → Sound s → FreshInStartup s → (c : Call) → FreshInStartup (step_of outline_of s c).state
 unfolding with_sample_period with_quaternion
-after_call s h f (update g a m) =
-    settled FreshInStartup (refusal_of (update_checks s g a m)) (updated_of s g a m) s f (λ e. updated_fresh s h f g a m)
-after_call s h f restart = settled FreshInStartup (refusal_of (state_checks s)) (restarted_of s) s f (λ e. started_fresh s.settings s.config)
-after_call s h f skip_startup = settled FreshInStartup (refusal_of (state_checks s)) (skipped_startup s) s f (λ e. startup_fresh s)
-after_call s h f (set_settings t) =
-    settled FreshInStartup (refusal_of (change_checks s t)) (with_settings s t (derived_of t)) s f (λ e. settings_fresh s t (derived_of t) f)
-after_call s h f (set_sample_period p) = settled FreshInStartup (refusal_of (period_checks s p)) (with_sample_period s p) s f (λ e. f)
-after_call s h f (set_quaternion q) = settled FreshInStartup (refusal_of (quaternion_checks s q)) (with_quaternion s q) s f (λ e. f)
-after_call s h f (set_heading x) = settled FreshInStartup (refusal_of (set_checks s x)) (with_heading s x) s f (λ e. f)
-after_call s h f (update_external_heading g a x) =
-    settled FreshInStartup (refusal_of (external_checks s g a x)) (external_of s g a x) s f (λ e. updated_fresh s h f g a (magnetometer_of s.quaternion x))
-after_call s h f (update_no_magnetometer g a) =
-    settled FreshInStartup (refusal_of (unaided_checks s g a)) (northed_of (unaided_of s g a)) s f
-    (λ e. northed FreshInStartup (unaided_of s g a) (updated_fresh s h f g a zero_vector) (λ t. updated_fresh s h f g a zero_vector))
+after_call s h f c =
+    keeping.after_call FreshInStartup s f c
+    (record {
+      updated = λ g a m e. updated_fresh s h f g a m;
+      restarted = started_fresh s.settings s.config;
+      skipped = startup_fresh s;
+      settings = λ t e a. settings_fresh s t (derived_of t) f;
+      period = λ p e. f;
+      quaternion = λ q e i. f;
+      headed = λ n k x e. k;
+    })
 
 -- ---- a run
 

@@ -7,7 +7,7 @@ use lib.Ieee.{Float, lt}
 use Rattle.number.specs.Float32.{◌⊖◌}
 use Rattle.answer.specs.Refusals.{refusal_of, accepted}
 use Rattle.answer.specs.Runs.{step_of}
-use Rattle.answer.proofs.Running.{settled, read_settled, untouched, kept}
+use Rattle.answer.proofs.Running.{read_settled, untouched, kept}
 use Rattle.vector.specs.declared.Vector.{Vector}
 use Rattle.vector.specs.Vectors.{zero_vector}
 use Rattle.settings.specs.declared.config.Config.{Config}
@@ -25,7 +25,8 @@ use Rattle.heading.specs.Calls.{with_heading, set_checks, external_of, external_
 use Rattle.reached.specs.Runs.{Call, update, restart, skip_startup, set_settings, set_sample_period, set_quaternion, outline_of}
 use Rattle.reached.specs.Runs.{set_heading, update_external_heading, update_no_magnetometer, checks_of, Readings}
 use Rattle.reached.specs.Knocks.{OnlyInStartup, StaysInStartup, axes_updated, Latest, ReadingsOwn}
-use Rattle.reached.proofs.Headed.{northed, as_read}
+use Rattle.reached.proofs.Keeping as keeping
+use Rattle.reached.proofs.Headed.{as_read}
 use Rattle.reached.proofs.Counting.{after_overrange}
 
 -- ---- an update
@@ -77,18 +78,17 @@ fresh_in_startup s e = refl
 
 after_call : (s : Ahrs) → OnlyInStartup s → (c : Call) → OnlyInStartup (step_of outline_of s c).state
 unfolding skipped_startup with_settings with_sample_period with_quaternion
-after_call s h (update g a m) = settled OnlyInStartup (refusal_of (update_checks s g a m)) (updated_of s g a m) s h (λ e. updated_in_startup s h g a m)
-after_call s h restart = settled OnlyInStartup (refusal_of (state_checks s)) (restarted_of s) s h (λ e. fresh_in_startup s)
-after_call s h skip_startup = settled OnlyInStartup (refusal_of (state_checks s)) (skipped_startup s) s h (λ e k. refl)
-after_call s h (set_settings t) = settled OnlyInStartup (refusal_of (change_checks s t)) (with_settings s t (derived_of t)) s h (λ e. h)
-after_call s h (set_sample_period p) = settled OnlyInStartup (refusal_of (period_checks s p)) (with_sample_period s p) s h (λ e. h)
-after_call s h (set_quaternion q) = settled OnlyInStartup (refusal_of (quaternion_checks s q)) (with_quaternion s q) s h (λ e. h)
-after_call s h (set_heading x) = settled OnlyInStartup (refusal_of (set_checks s x)) (with_heading s x) s h (λ e. h)
-after_call s h (update_external_heading g a x) =
-    settled OnlyInStartup (refusal_of (external_checks s g a x)) (external_of s g a x) s h (λ e. updated_in_startup s h g a (magnetometer_of s.quaternion x))
-after_call s h (update_no_magnetometer g a) =
-    settled OnlyInStartup (refusal_of (unaided_checks s g a)) (northed_of (unaided_of s g a)) s h
-    (λ e. northed OnlyInStartup (unaided_of s g a) (updated_in_startup s h g a zero_vector) (λ t. updated_in_startup s h g a zero_vector))
+after_call s h c =
+    keeping.after_call OnlyInStartup s h c
+    (record {
+      updated = λ g a m f. updated_in_startup s h g a m;
+      restarted = fresh_in_startup s;
+      skipped = λ k. refl;
+      settings = λ t e a. h;
+      period = λ p f. h;
+      quaternion = λ q e f. h;
+      headed = λ n k x f. k;
+    })
 
 pub stays_in_startup : StaysInStartup
 unfolding fresh_of

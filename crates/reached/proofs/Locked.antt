@@ -25,7 +25,8 @@ use Rattle.settings.specs.declared.Settings.{Settings}
 use Rattle.settings.specs.declared.limit.Limit.TheVariants.{Squared}
 use Rattle.settings.specs.Config.{finite_settings, finite_config, limit_of, derived_of}
 use Rattle.settings.specs.Axes.{over_of}
-use Rattle.step.specs.Sensor.{residual_of, reset_of, longer_of, skipped_of, rejected_of, half_inclination_feedback_of, half_heading_feedback_of, finite_rejection}
+use Rattle.step.specs.Sensor.{residual_of, reset_of, longer_of, skipped_of, rejected_of, half_inclination_feedback_of, half_heading_feedback_of}
+use Rattle.step.specs.Sensor.{finite_rejection}
 use Rattle.step.specs.Direction.{half_gravity_of, half_west_of}
 use Rattle.step.specs.Rate.{startup_gain_of, rate_of, integrated_of}
 use Rattle.ahrs.specs.declared.Ahrs.{Ahrs}
@@ -77,11 +78,11 @@ pub record Row (T timeout : ℕ) : Type 0 where
 
 -- 5, 10, 90 and 100 milliseconds
 pub rows : Row 0 0x3ba3_d70a × Row 1 0x3c23_d70a × Row 9 0x3db8_51ec × Row 10 0x3dcc_cccd
-unfolding refusal_of finite_state finite_settings finite_config finite_quaternion finite_vector finite_rejection fresh_of derived_of limit_of reset_of skipped_startup
-    updated_of overrange_of over_of startup_gain_of half_feedback_of half_gravity_of half_west_of half_inclination_feedback_of half_heading_feedback_of skipped_of longer_of
-    rejected_of residual_of counts.updated_of counts.moved_of saturated_of clamp_of flags_of dot_of vectors.norm_squared_of vectors.norm_of vectors.normalize_of
-    rate_of integrated_of normalize_of norm_of norm_squared_of sqrt_of root_bits_of squared_of exponent_of significand_of nearest_root_of floor_root count_leading_zeros
-    eq ne lt le add sub mul div neg sum round units odd of_bits to_bits to_signed
+unfolding refusal_of finite_state finite_settings finite_config finite_quaternion finite_vector finite_rejection fresh_of derived_of limit_of reset_of
+    skipped_startup updated_of overrange_of over_of startup_gain_of half_feedback_of half_gravity_of half_west_of half_inclination_feedback_of
+    half_heading_feedback_of skipped_of longer_of rejected_of residual_of counts.updated_of counts.moved_of saturated_of clamp_of flags_of dot_of
+    vectors.norm_squared_of vectors.norm_of vectors.normalize_of rate_of integrated_of normalize_of norm_of norm_squared_of sqrt_of root_bits_of squared_of
+    exponent_of significand_of nearest_root_of floor_root count_leading_zeros eq ne lt le add sub mul div neg sum round units odd of_bits to_bits to_signed
 rows = (
   record { counted = refl; heard = refl; up = refl; down = refl },
   record { counted = refl; heard = refl; up = refl; down = refl },

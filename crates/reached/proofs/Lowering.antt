@@ -1,12 +1,10 @@
 -- A trigger goes above T only where T is lowered: `OnlyLowered` holds. Assumes nothing.
+use mathlib.Core.Path.{subst}
 use mathlib.Core.Bool.{Bool}
 use lib.IntN.{ℤ, pos}
 use lib.Ieee.{Float}
-use Rattle.answer.specs.Refusals.{refusal_of}
 use Rattle.answer.specs.Runs.{step_of}
-use Rattle.answer.proofs.Running.{settled}
 use Rattle.vector.specs.declared.Vector.{Vector}
-use Rattle.vector.specs.Vectors.{zero_vector}
 use Rattle.rejection.specs.Inside.{NotBelow}
 use Rattle.rejection.proofs.Order.{not_below_through}
 use Rattle.rejection.proofs.Inside.{stays_inside}
@@ -16,16 +14,13 @@ use Rattle.step.specs.declared.Rejection.{Rejection}
 use Rattle.ahrs.specs.declared.Ahrs.{Ahrs}
 use Rattle.settings.specs.Config.{derived_of}
 use Rattle.step.specs.Sensor.{counts_of, reset_of, skipped_of, rejected_of}
-use Rattle.ahrs.specs.Filter.{fresh_of, restarted_of, skipped_startup, with_threshold, with_settings, with_sample_period, with_quaternion, overrange_of, updated_of}
-use Rattle.ahrs.specs.Calls.{update_checks, state_checks, change_checks, period_checks, quaternion_checks}
-use Rattle.heading.specs.Turn.{magnetometer_of}
-use Rattle.heading.specs.Calls.{with_heading, set_checks, external_of, external_checks, unaided_of, northed_of, unaided_checks}
-use Rattle.reached.specs.Runs.{Call, update, restart, skip_startup, set_settings, set_sample_period, set_quaternion, outline_of}
-use Rattle.reached.specs.Runs.{set_heading, update_external_heading, update_no_magnetometer}
+use Rattle.ahrs.specs.Filter.{fresh_of, skipped_startup, with_threshold, with_settings, with_sample_period, with_quaternion, overrange_of}
+use Rattle.ahrs.specs.Filter.{updated_of}
+use Rattle.reached.specs.Runs.{Call, outline_of}
 use Rattle.reached.specs.Reached.{Sound, Under, Raises, OnlyLowered}
+use Rattle.reached.proofs.Keeping as keeping
 use Rattle.reached.proofs.Counting.{after_overrange, acceleration_after, magnetic_after}
 use Rattle.reached.proofs.Accepting.{start_accepted}
-use Rattle.reached.proofs.Headed.{northed}
 use Rattle.reached.proofs.Sound.{now_timeout}
 
 -- one sensor's trigger is not above T
@@ -81,24 +76,17 @@ startup_under s u = record { acceleration = u.acceleration; magnetic = u.magneti
 
 after_call : (s : Ahrs) → Sound s → Under s → (c : Call) → Raises s c → Under (step_of outline_of s c).state
 unfolding with_sample_period with_quaternion
-after_call s h u (update g a m) r = settled Under (refusal_of (update_checks s g a m)) (updated_of s g a m) s u (λ e. updated_under s h u g a m)
-after_call s h u restart r = settled Under (refusal_of (state_checks s)) (restarted_of s) s u (λ e. fresh_under s.settings s.config h.timeout)
-after_call s h u skip_startup r = settled Under (refusal_of (state_checks s)) (skipped_startup s) s u (λ e. startup_under s u)
-after_call s h u (set_settings t) r =
-    settled Under (refusal_of (change_checks s t)) (with_settings s t (derived_of t)) s u (λ e. settings_under s t (derived_of t) r u)
-after_call s h u (set_sample_period p) r =
-    settled Under (refusal_of (period_checks s p)) (with_sample_period s p) s u (λ e. record { acceleration = u.acceleration; magnetic = u.magnetic })
-after_call s h u (set_quaternion q) r =
-    settled Under (refusal_of (quaternion_checks s q)) (with_quaternion s q) s u (λ e. record { acceleration = u.acceleration; magnetic = u.magnetic })
-after_call s h u (set_heading x) r =
-    settled Under (refusal_of (set_checks s x)) (with_heading s x) s u (λ e. record { acceleration = u.acceleration; magnetic = u.magnetic })
-after_call s h u (update_external_heading g a x) r =
-    settled Under (refusal_of (external_checks s g a x)) (external_of s g a x) s u (λ e. updated_under s h u g a (magnetometer_of s.quaternion x))
-after_call s h u (update_no_magnetometer g a) r =
-    settled Under (refusal_of (unaided_checks s g a)) (northed_of (unaided_of s g a)) s u
-    (λ e.
-    let first = updated_under s h u g a zero_vector in
-    northed Under (unaided_of s g a) first (λ t. record { acceleration = first.acceleration; magnetic = first.magnetic }))
+after_call s h u c r =
+    keeping.after_call Under s u c
+    (record {
+      updated = λ g a m f. updated_under s h u g a m;
+      restarted = fresh_under s.settings s.config h.timeout;
+      skipped = startup_under s u;
+      settings = λ t e a. settings_under s t (derived_of t) (subst (Raises s) e r) u;
+      period = λ p f. record { acceleration = u.acceleration; magnetic = u.magnetic };
+      quaternion = λ q e f. record { acceleration = u.acceleration; magnetic = u.magnetic };
+      headed = λ n k x f. record { acceleration = k.acceleration; magnetic = k.magnetic };
+    })
 
 pub only_lowered : OnlyLowered
 only_lowered = record { fresh = λ t e. fresh_under t (derived_of t) (start_accepted t e).timeout; step = after_call }

@@ -28,6 +28,7 @@ use Rattle.reached.specs.Runs.{set_heading, update_external_heading, update_no_m
 use Rattle.reached.specs.Orientation.{all_zero, overflows, zero_after, Single, ZeroExactly, overflowing, Given, Calm, NeverZero}
 use Rattle.reached.specs.Orientation.{heads, Unheaded, ZeroOrSettable, SetAgain}
 use Rattle.reached.proofs.Accepting.{update_accepted, quaternion_accepted}
+use Rattle.reached.proofs.Keeping as keeping
 use Rattle.reached.proofs.Accepting.{heading_accepted, external_accepted, unaided_accepted, north_accepted}
 use Rattle.reached.proofs.Headed.{northed}
 use Rattle.heading.proofs.Zeros.{headed_zero}
@@ -89,18 +90,17 @@ fresh_single t c = (tt, tt, tt, tt)
 
 single_after : (s : Ahrs) → Of32 s → (c : Call) → Given c → Of32 (step_of outline_of s c).state
 unfolding skipped_startup with_settings with_sample_period with_quaternion
-single_after s f (update g a m) o = settled Of32 (refusal_of (update_checks s g a m)) (updated_of s g a m) s f (λ e. updated_single s g a m)
-single_after s f (update_external_heading g a h) o =
-    settled Of32 (refusal_of (external_checks s g a h)) (external_of s g a h) s f (λ e. updated_single s g a (magnetometer_of s.quaternion h))
-single_after s f (update_no_magnetometer g a) o =
-    settled Of32 (refusal_of (unaided_checks s g a)) (northed_of (unaided_of s g a)) s f
-    (λ e. northed Of32 (unaided_of s g a) (updated_single s g a zero_vector) (λ t. headed_single (unaided_of s g a).quaternion float.zero))
-single_after s f restart o = settled Of32 (refusal_of (state_checks s)) (restarted_of s) s f (λ e. fresh_single s.settings s.config)
-single_after s f (set_quaternion q) o = settled Of32 (refusal_of (quaternion_checks s q)) (with_quaternion s q) s f (λ e. o)
-single_after s f (set_heading h) o = settled Of32 (refusal_of (set_checks s h)) (with_heading s h) s f (λ e. headed_single s.quaternion h)
-single_after s f skip_startup o = settled Of32 (refusal_of (state_checks s)) (skipped_startup s) s f (λ e. f)
-single_after s f (set_settings t) o = settled Of32 (refusal_of (change_checks s t)) (with_settings s t (derived_of t)) s f (λ e. f)
-single_after s f (set_sample_period p) o = settled Of32 (refusal_of (period_checks s p)) (with_sample_period s p) s f (λ e. f)
+single_after s f c o =
+    keeping.after_call Of32 s f c
+    (record {
+      updated = λ g a m e. updated_single s g a m;
+      restarted = fresh_single s.settings s.config;
+      skipped = f;
+      settings = λ t e a. f;
+      period = λ p e. f;
+      quaternion = λ q e i. subst Given e o;
+      headed = λ n k x e. headed_single n.quaternion x;
+    })
 
 -- ---- a run without an overflow
 

@@ -9,7 +9,7 @@ use lib.Ieee.Scale.{finite}
 use Rattle.number.specs.Float32 as float
 use Rattle.number.specs.Float32.{◌⊖◌}
 use Rattle.answer.specs.Refusals.{refusal_of, accepted, check}
-use Rattle.answer.specs.declared.Answer.TheVariants.{Refused}
+use Rattle.answer.specs.Answers.{refused}
 use Rattle.answer.specs.Runs.{Told, answer, step_of}
 use Rattle.trig.specs.Degrees.{in_turn}
 use Rattle.vector.specs.declared.Vector.{Vector}
@@ -189,7 +189,7 @@ rest_after s (update_no_magnetometer g a) =
     ∙ ap (λ (n : ℕ). forgotten (accepted n (northed_of (unaided_of s g a)) s)) (unaided_alike s g a)
 
 abbrev oriented : ℕ → Quaternion → Told
-oriented n q = answer (accepted n (oriented_of q) (Refused n))
+oriented n q = answer (accepted n (oriented_of q) (refused n))
 
 told_after : (s : Ahrs) (c : Call) → (step_of outline_of (forgotten s) c).told ≡ (step_of outline_of s c).told
 unfolding finite_state finite_rejection

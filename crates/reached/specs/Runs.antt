@@ -1,7 +1,10 @@
 -- The calls of the filter as those of a run: what each is made of, by the definitions that its promise cites.
 use Rattle.std.specs.Prelude.{◌≡◌, List, Float}
 use Rattle.std.proofs.Math.Option.{Option, none, some}
+use Rattle.answer.specs.declared.change.Change.{Change}
+use Rattle.answer.specs.declared.change.Reading.{Reading}
 use Rattle.answer.specs.Refusals.{Check}
+use Rattle.answer.specs.Rows.{number_in}
 use Rattle.answer.specs.Runs.{answer, number, Step, Outline, sets, answers, step_of}
 use Rattle.vector.specs.declared.Vector.{Vector}
 use Rattle.vector.specs.Vectors.{zero_vector}
@@ -9,8 +12,6 @@ use Rattle.math.specs.declared.quaternion.Quaternion.{Quaternion}
 use Rattle.settings.specs.declared.Settings.{Settings}
 use Rattle.settings.specs.Config.{derived_of}
 use Rattle.ahrs.specs.declared.Ahrs.{Ahrs}
-use Rattle.ahrs.specs.declared.Reading.{Reading}
-use Rattle.ahrs.specs.declared.change.Change.{Change}
 use Rattle.ahrs.specs.Filter.{restarted_of, skipped_startup, with_settings, with_sample_period, with_quaternion, updated_of}
 use Rattle.ahrs.specs.Calls.{update_checks, oriented_of, Updates, state_checks, Restarts, SkipsStartup}
 use Rattle.ahrs.specs.Calls.{change_checks, SetsSettings, period_checks, SetsSamplePeriod, quaternion_checks, SetsQuaternion}
@@ -75,22 +76,22 @@ readings_of s (set_heading h) = none
 -- ---- the promises
 
 -- what the code's calls leave and tell
-abbrev pub read : Reading → Step Ahrs
+abbrev pub read : Reading Ahrs → Step Ahrs
 read r = record { state = r.state; told = answer r.answer }
 
-abbrev pub changed : Change → Step Ahrs
-changed r = record { state = r.state; told = number r.number }
+abbrev pub changed : Change Ahrs → Step Ahrs
+changed r = record { state = r.state; told = number (number_in r.result) }
 
 -- is the step: the promises say so
 pub record Covered : Type 0 where
-  pub of_update : (s : Ahrs) (g a m : Vector) (r : Reading) → Updates s g a m r → step_of outline_of s (update g a m) ≡ read r
-  pub of_restart : (s : Ahrs) (r : Change) → Restarts s r → step_of outline_of s restart ≡ changed r
-  pub of_skip_startup : (s : Ahrs) (r : Change) → SkipsStartup s r → step_of outline_of s skip_startup ≡ changed r
-  pub of_settings : (s : Ahrs) (t : Settings) (r : Change) → SetsSettings s t r → step_of outline_of s (set_settings t) ≡ changed r
-  pub of_sample_period : (s : Ahrs) (p : Float) (r : Change) → SetsSamplePeriod s p r → step_of outline_of s (set_sample_period p) ≡ changed r
-  pub of_quaternion : (s : Ahrs) (q : Quaternion) (r : Change) → SetsQuaternion s q r → step_of outline_of s (set_quaternion q) ≡ changed r
-  pub of_heading : (s : Ahrs) (h : Float) (r : Change) → SetsHeading s h r → step_of outline_of s (set_heading h) ≡ changed r
+  pub of_update : (s : Ahrs) (g a m : Vector) (r : Reading Ahrs) → Updates s g a m r → step_of outline_of s (update g a m) ≡ read r
+  pub of_restart : (s : Ahrs) (r : Change Ahrs) → Restarts s r → step_of outline_of s restart ≡ changed r
+  pub of_skip_startup : (s : Ahrs) (r : Change Ahrs) → SkipsStartup s r → step_of outline_of s skip_startup ≡ changed r
+  pub of_settings : (s : Ahrs) (t : Settings) (r : Change Ahrs) → SetsSettings s t r → step_of outline_of s (set_settings t) ≡ changed r
+  pub of_sample_period : (s : Ahrs) (p : Float) (r : Change Ahrs) → SetsSamplePeriod s p r → step_of outline_of s (set_sample_period p) ≡ changed r
+  pub of_quaternion : (s : Ahrs) (q : Quaternion) (r : Change Ahrs) → SetsQuaternion s q r → step_of outline_of s (set_quaternion q) ≡ changed r
+  pub of_heading : (s : Ahrs) (h : Float) (r : Change Ahrs) → SetsHeading s h r → step_of outline_of s (set_heading h) ≡ changed r
   pub of_external_heading
-      : (s : Ahrs) (g a : Vector) (h : Float) (r : Reading) → UpdatesHeading s g a h r → step_of outline_of s (update_external_heading g a h) ≡ read r
+      : (s : Ahrs) (g a : Vector) (h : Float) (r : Reading Ahrs) → UpdatesHeading s g a h r → step_of outline_of s (update_external_heading g a h) ≡ read r
   pub of_no_magnetometer
-      : (s : Ahrs) (g a : Vector) (r : Reading) → UpdatesUnaided s g a r → step_of outline_of s (update_no_magnetometer g a) ≡ read r
+      : (s : Ahrs) (g a : Vector) (r : Reading Ahrs) → UpdatesUnaided s g a r → step_of outline_of s (update_no_magnetometer g a) ≡ read r

@@ -8,10 +8,10 @@ pub examples : Examples
 unfolding updated_of moved_of saturated_of clamp_of
 examples =
     record {
-      none = record { locked_out_lem = refl; recovers = refl; ends = refl };
-      one = record { locked_out_lem = refl; recovers = refl; ends = refl };
-      nine = record { locked_out_lem = refl; recovers = refl; ends = refl };
-      ten = record { locked_out_lem = refl; recovers = refl; ends = refl };
-      five_hundred = record { locked_out_lem = refl; recovers = refl; ends = refl };
+      none = record { ignores = refl; recovers = refl; ends = refl };
+      one = record { ignores = refl; recovers = refl; ends = refl };
+      nine = record { ignores = refl; recovers = refl; ends = refl };
+      ten = record { ignores = refl; recovers = refl; ends = refl };
+      five_hundred = record { ignores = refl; recovers = refl; ends = refl };
       interrupted = refl;
     }

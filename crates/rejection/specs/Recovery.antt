@@ -58,7 +58,8 @@ pub record NeverBegins : Type 0 where
 
 -- ---- by evaluation
 
--- from freshly reset, readings over the limit until one is used; and in recovery from a trigger of T, good ones until the flag is down: how many, up to a most
+-- from freshly reset, readings over the limit until one is used; and in recovery from a trigger of T, good ones until the flag is down:
+-- how many, up to a most
 abbrev pub ignored_from : ℕ → Counts → ℕ → ℕ
 ignored_from T c zero = 0
 ignored_from T c (suc most) = let u = by_kind (pos T) c over in cond u.used 0 (suc (ignored_from T u.counts most))
@@ -68,7 +69,7 @@ lasts_from T c zero = 0
 lasts_from T c (suc most) = cond (recovery_of c) (suc (lasts_from T (by_kind (pos T) c good).counts most)) 0
 
 pub record Row (T ignored lasts : ℕ) : Type 0 where
-  pub locked_out_lem : ignored_from T (reset_of (pos T)) 600 ≡ ignored
+  pub ignores : ignored_from T (reset_of (pos T)) 600 ≡ ignored
   pub recovers : lasts_from T (begun T) 600 ≡ lasts
   pub ends : recovering T lasts ≡ reset_of (pos T)
 

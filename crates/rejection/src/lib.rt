@@ -4,14 +4,14 @@
 ghost use Rattle.std.specs.Prelude.{◌≡◌};
 ghost use Rattle.rejection.specs.Counts.{reset_of, moved_of, updated_of, recovery_of};
 
-#[derive(Clone, Copy)]
+#[derive(Clone, Copy, Debug, PartialEq, Eq)]
 pub struct Counts {
     pub trigger: i32,
     pub threshold: i32,
 }
 
 // The counts after a reading, and whether its residual is used.
-#[derive(Clone, Copy)]
+#[derive(Clone, Copy, Debug, PartialEq, Eq)]
 pub struct Updated {
     pub counts: Counts,
     pub used: bool,

@@ -2,23 +2,26 @@
 use Prim.Native.Nat.{ℕ, ◌+◌, ◌*◌, ◌/◌, ◌%◌, ◌^◌, ◌<◌}
 use native.Mathlib.Omega.{arith}
 use mathlib.Core.Path.{◌≡◌, refl, ap, ap₂, sym, ◌∙◌}
+use mathlib.Core.List.{[]}
 use mathlib.Core.Bool.{Bool, false, ◌&&◌, ◌||◌, cond}
 use lib.Dec.{T, eqb, ltb, eqb→eq, ltb→lt}
+use lib.ListN.{get_or}
 use lib.Ieee.{Float, neg}
 use lib.Ieee.Fits.{and_l, and_r}
 use borrow.Author.Tests.{ltb-false}
+use Rattle.answer.specs.Said.{alone}
 use Rattle.answer.proofs.Tests.{neither}
 use Rattle.number.proofs.Signs.{neg_neg}
 use Rattle.vector.specs.declared.Vector.{Vector}
 use Rattle.vector.specs.Mounting.{Signed, Px, Py, Pz, Nx, Ny, Nz, Mounting, mounting_of, read, turn, turn_of}
-use Rattle.remap.specs.declared.MountingRead.TheVariants.{Number}
+use Rattle.std.specs.declared.result.Result.TheVariants.{Ok}
 use Rattle.remap.specs.First.{first}
 use Rattle.remap.specs.Given.{Gives}
 use Rattle.remap.specs.Names.{sign, letter, spell, name_of, same}
 use Rattle.remap.specs.Composition.{opposite, afterwards, compose_of, inverse_of, compose_checks, Composes, Undone}
-use Rattle.remap.specs.Inner.{six_of}
-use Rattle.answer.proofs.Answering.{passes, all_pass}
-use Rattle.remap.proofs.Giving.{gives_number}
+use Rattle.remap.specs.Inner.{packed, six_of}
+use Rattle.remap.specs.declared.table.TheConstants.{WORDS, UNDOING}
+use Rattle.answer.proofs.Answering.{passes, all_pass, gives_result}
 use Rattle.remap.proofs.Naming.{is_name}
 use Rattle.remap.proofs.Tabled.{at_each, at_both}
 use Rattle.remap.proofs.Packed.{unpacked}
@@ -119,26 +122,42 @@ undone n v h =
       turn_compose m n v g h ∙ in_place (compose_of m n) v (eqb→eq (compose_of m n) 0 (and_r (eqb (compose_of n m) 0) (eqb (compose_of m n) 0) both)),
     )
 
--- ---- the code's words
+-- ---- the code's tables
 
-module _ (a b : ℕ) (passed : (ltb 23 a || ltb 23 b) ≡ false) where
-  pub both_below : (a < 24) × (b < 24)
-  both_below =
-      let (p, q) = neither (ltb 23 a) (ltb 23 b) passed in
-      (omega (arith, ltb-false 23 a p), omega (arith, ltb-false 23 b q))
+-- each word and each undoing number is what its definition says: tests that antt computes at all 96 and all 24
+pub word_at : (a six : ℕ) → a < 24 → six < 4 → get_or (get_or WORDS a []) six 0 ≡ six_of a six
+unfolding packed compose_of first same name_of mounting_of
+word_at a six h g =
+    eqb→eq (get_or (get_or WORDS a []) six 0) (six_of a six) (at_both 24 4 (λ m i. eqb (get_or (get_or WORDS m []) i 0) (six_of m i)) tt a six h g)
 
+pub undoing_at : (n : ℕ) → n < 24 → get_or UNDOING n 0 ≡ inverse_of n
+unfolding inverse_of compose_of first same name_of mounting_of
+undoing_at n h = eqb→eq (get_or UNDOING n 0) (inverse_of n) (at_each 24 (λ i. eqb (get_or UNDOING i 0) (inverse_of i)) tt n h)
+
+module _ (a b : ℕ) where
   -- what is read at the place of b in the word of the six that it is one of
-  pub answered : {w r : ℕ} → w ≡ six_of a (b / 6) → r ≡ w / 2 ^ (5 * (b % 6)) % 32 → Gives (compose_checks a b) (compose_of a b) (Number r)
-  answered e f = gives_number (compose_checks a b) (compose_of a b) (passes 4 _ passed ∙ all_pass) (f ∙ rw e (there ∙ ap (compose_of a) place))
+  pub in_word : {w : ℕ} → a < 24 → b < 24 → w ≡ six_of a (b / 6) → w / 2 ^ (5 * (b % 6)) % 32 ≡ compose_of a b
+  in_word h g e = rw e (there ∙ ap (compose_of a) place)
     where
       i : ℕ
       i = 6 * (b / 6)
 
       below : (n : ℕ) → n < i + 6 → compose_of a n < 2 ^ 5
-      below n m = omega (arith, closed a n both_below.0 (omega (arith, both_below.1)))
+      below n m = omega (arith, closed a n h (omega (arith, g)))
 
       there : six_of a (b / 6) / 2 ^ (5 * (b % 6)) % 32 ≡ compose_of a (i + b % 6)
       there = unpacked 5 (compose_of a) 6 i (b % 6) below (omega arith)
 
       place : i + b % 6 ≡ b
       place = omega arith
+
+  both_below : (ltb 23 a || ltb 23 b) ≡ false → (a < 24) × (b < 24)
+  both_below passed =
+      let (p, q) = neither (ltb 23 a) (ltb 23 b) passed in
+      (omega (arith, ltb-false 23 a p), omega (arith, ltb-false 23 b q))
+
+  pub answered : (ltb 23 a || ltb 23 b) ≡ false → {w r : ℕ} → w ≡ six_of a (b / 6) → r ≡ w / 2 ^ (5 * (b % 6)) % 32
+      → Gives (compose_checks a b) (compose_of a b) (Ok r)
+  answered passed e f =
+      let (h, g) = both_below passed in
+      gives_result alone (compose_checks a b) (compose_of a b) (sym (passes 4 _ passed ∙ all_pass)) (ap Ok (f ∙ in_word h g e))

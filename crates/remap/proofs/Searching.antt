@@ -1,13 +1,13 @@
--- The search for the first number that passes, and the comparison of two runs of bytes, step by step and as a whole. Assumes nothing.
+-- The search for the first number that passes, and the comparison of two runs of bytes. Assumes nothing.
 use Prim.Native.Nat.{ℕ, zero, suc, ◌+◌, ◌-◌, ◌≤◌, ◌<◌}
 use native.Mathlib.Omega.{arith}
 use native.Mathlib.Numerals.{add-one}
-use mathlib.Core.Path.{◌≡◌, refl, ap₂, sym, ◌∙◌}
+use mathlib.Core.Path.{◌≡◌, refl, ap₂}
 use mathlib.Core.Bool.{Bool, true, false, ◌&&◌, cond}
 use mathlib.Core.List.{List, [], ◌∷◌}
 use lib.Dec.{eqb}
-use lib.ListN.{length, get_or, take, drop, set, drop_of_length-le}
-use lib.Seq.{drop-cons, take-suc, take-suc-set, take_all}
+use lib.ListN.{length, get_or, drop, drop_of_length-le}
+use lib.Seq.{drop-cons}
 use borrow.Author.Tests.{eqb-true, eq-eqb, ne_eqb}
 use Rattle.remap.specs.First.{first}
 use Rattle.remap.specs.Names.{same}
@@ -68,12 +68,3 @@ same_eq (x ∷ s) (y ∷ t) e = pick (eqb x y) refl e (same_eq s t)
     pick : (b : Bool) → eqb x y ≡ b → (b && same s t) ≡ true → (same s t ≡ true → s ≡ t) → x ∷ s ≡ y ∷ t
     pick true p q later = ap₂ (λ (a : ℕ) (l : List ℕ). a ∷ l) (eqb-true x y p) (later q)
     pick false p q later = cc
-
--- ---- a copy, of which the first k are there
-
-module _ (t l : List ℕ) (k : ℕ) where
-  pub copied_next : (b : ℕ) → k < length l → k < length t → take k l ≡ take k t → b ≡ get_or t k 0 → take (k + 1) (set l k b) ≡ take (k + 1) t
-  copied_next b h g e f = rw (add-one, take-suc-set l k b h, take-suc t k 0 g, e, f)
-
-  pub copied_all : length l ≤ k → length t ≤ k → take k l ≡ take k t → l ≡ t
-  copied_all h g e = sym (take_all k l h) ∙ e ∙ take_all k t g

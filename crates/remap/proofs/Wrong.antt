@@ -7,7 +7,8 @@ use lib.ListN.{get_or}
 use Rattle.number.proofs.Apart.{unlike}
 use Rattle.answer.specs.Refusals.{refusal_of}
 use Rattle.vector.specs.Mounting.{mounting_of}
-use Rattle.remap.specs.declared.MountingRead.TheVariants.{Number, Refused}
+use Rattle.std.specs.declared.result.Result.TheVariants.{Ok, Err}
+use Rattle.answer.specs.declared.refusal.Refusal.TheVariants.{Unknown}
 use Rattle.remap.specs.First.{first}
 use Rattle.remap.specs.Given.{Gives}
 use Rattle.remap.specs.Names.{name_of, same, named_by, read_checks, NameWritten}
@@ -31,9 +32,9 @@ mirrored = 45 ∷ 88 ∷ 43 ∷ 89 ∷ 43 ∷ 90 ∷ []
 
 -- a name refused; the same answer for every name; a mirrored name taken
 pub of_read_name
-    : (Gives (read_checks (name_of 11)) (named_by (name_of 11)) (Refused 4) → ⊥)
-    × (Gives (read_checks (name_of 11)) (named_by (name_of 11)) (Number 0) → ⊥)
-    × (Gives (read_checks mirrored) (named_by mirrored) (Number 0) → ⊥)
+    : (Gives (read_checks (name_of 11)) (named_by (name_of 11)) (Err Unknown) → ⊥)
+    × (Gives (read_checks (name_of 11)) (named_by (name_of 11)) (Ok 0) → ⊥)
+    × (Gives (read_checks mirrored) (named_by mirrored) (Ok 0) → ⊥)
 unfolding refusal_of first same name_of mounting_of
 of_read_name = (
   λ h. let e = h.exact in let z : ◌≡◌ {A = ℕ} 0 1 = cc in omega arith,
@@ -42,13 +43,13 @@ of_read_name = (
 )
 
 -- the second first; 24 taken for 0
-pub of_compose : (Gives (compose_checks 1 11) (compose_of 1 11) (Number 8) → ⊥) × (Gives (compose_checks 24 0) (compose_of 24 0) (Number 0) → ⊥)
+pub of_compose : (Gives (compose_checks 1 11) (compose_of 1 11) (Ok 8) → ⊥) × (Gives (compose_checks 24 0) (compose_of 24 0) (Ok 0) → ⊥)
 unfolding refusal_of compose_of first same name_of mounting_of
 of_compose =
     (λ h. let e = h.exact in let z : ◌≡◌ {A = ℕ} 0 1 = cc in omega arith, λ h. let e = h.exact in let z : ◌≡◌ {A = ℕ} 0 1 = cc in omega arith)
 
 -- the inverse of 11 as if only signs counted; a refusal of 0
-pub of_inverse : (Gives (inverse_checks 11) (inverse_of 11) (Number 11) → ⊥) × (Gives (inverse_checks 0) (inverse_of 0) (Refused 4) → ⊥)
+pub of_inverse : (Gives (inverse_checks 11) (inverse_of 11) (Ok 11) → ⊥) × (Gives (inverse_checks 0) (inverse_of 0) (Err Unknown) → ⊥)
 unfolding refusal_of inverse_of compose_of first same name_of mounting_of
 of_inverse =
     (λ h. let e = h.exact in let z : ◌≡◌ {A = ℕ} 0 1 = cc in omega arith, λ h. let e = h.exact in let z : ◌≡◌ {A = ℕ} 0 1 = cc in omega arith)

@@ -1,4 +1,5 @@
 pub mod First
+pub mod Counted
 pub mod Given
 pub mod Names
 pub mod Composition

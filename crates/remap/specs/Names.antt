@@ -4,8 +4,9 @@ use Rattle.answer.specs.Refusals.{Check, check}
 use Rattle.answer.specs.Promises.{Changed}
 use Rattle.vector.specs.Mounting.{Signed, Mounting, mounting_of, read}
 use Rattle.vector.specs.Determinant.{determinant_of}
-use Rattle.remap.specs.declared.MountingRead.{MountingRead}
-use Rattle.remap.specs.declared.MountingRead.TheVariants.{Number}
+use Rattle.std.specs.declared.result.Result.{Result}
+use Rattle.std.specs.declared.result.Result.TheVariants.{Ok}
+use Rattle.answer.specs.declared.refusal.Refusal.{Refusal}
 use Rattle.remap.specs.First.{first_mounting}
 use Rattle.remap.specs.Given.{given_of}
 
@@ -46,20 +47,20 @@ write_checks n room = check 1 (not (eqb room 6)) ∷ check 4 (ltb 23 n) ∷ []
 abbrev pub NameWritten : ℕ → List ℕ → List ℕ → ℕ → Type 0
 NameWritten n s after r = Changed (write_checks n (length s)) (name_of n) s after r
 
-abbrev pub read_of : List ℕ → MountingRead
+abbrev pub read_of : List ℕ → Result ℕ Refusal
 read_of s = given_of (read_checks s) (named_by s)
 
 -- ---- the statements
 
 -- each name is read as its mounting
 abbrev pub NameRead : Type 0
-NameRead = (n : ℕ) → n < 24 → read_of (name_of n) ≡ Number n
+NameRead = (n : ℕ) → n < 24 → read_of (name_of n) ≡ Ok n
 
 -- no other bytes are that name
 abbrev pub NoOther : Type 0
-NoOther = (s : List ℕ) (n : ℕ) → read_of s ≡ Number n → (n < 24) × (s ≡ name_of n)
+NoOther = (s : List ℕ) (n : ℕ) → read_of s ≡ Ok n → (n < 24) × (s ≡ name_of n)
 
 -- six bytes that spell any three signed axes are a name exactly when the determinant of the three is 1
 pub record NamesOfDeterminantOne : Type 0 where
-  pub all : (m : Mounting) → determinant_of m ≡ pos 1 → (n : ℕ) × (read_of (spell m) ≡ Number n)
-  pub no_other : (m : Mounting) (n : ℕ) → read_of (spell m) ≡ Number n → determinant_of m ≡ pos 1
+  pub all : (m : Mounting) → determinant_of m ≡ pos 1 → (n : ℕ) × (read_of (spell m) ≡ Ok n)
+  pub no_other : (m : Mounting) (n : ℕ) → read_of (spell m) ≡ Ok n → determinant_of m ≡ pos 1

@@ -1,11 +1,13 @@
 // The names of the mountings, six bytes each.
 ghost use Rattle.std.specs.Prelude.{◌≡◌, ◌<◌, length};
 ghost use Rattle.answer.specs.Refusals.{refusal_of};
+ghost use Rattle.answer.specs.Rows.{number_in};
 ghost use Rattle.remap.specs.Given.{Gives};
 ghost use Rattle.remap.specs.Inner.{byte_of};
 ghost use Rattle.remap.specs.Names.{name_of, same, named_by, read_checks, write_checks, NameWritten};
 
-use super::MountingRead;
+use super::Mounting;
+use answer::Refusal;
 
 // The k-th byte of the name of a mounting with these axes: a sign or a letter of one of them. Without a branch on the axes the
 // compiler keeps them a table.
@@ -22,73 +24,56 @@ fn byte_of(axes: u16, k: usize) -> u8
     }
 }
 
-// Stores a name where it has just room.
-fn put_name(mounting: u8, name: &mut [u8])
-    requires { (mounting < 24) × (length name.old ≡ 6) }
-    ensures { name.new ≡ name_of mounting }
-{
-    let axes = vector::axes_of(mounting);
-    let mut k = 0;
-    while k < 6 {
-        name[k] = byte_of(axes, k);
-        k += 1;
+impl Mounting {
+    // Its name.
+    #[tactic(auto, using(crate::proofs::Naming::spelled))]
+    pub fn name(self) -> [u8; 6]
+        ensures { result ≡ name_of self.number }
+    {
+        let axes = self.axes();
+        std::array::from_fn(|k| byte_of(axes, k))
     }
-}
 
-// The refusal of a name to be written where `room` bytes are, 0 for none.
-fn write_refusal(mounting: u8, room: usize) -> u8
-    ensures { result ≡ refusal_of (write_checks mounting room) }
-{
-    if room != 6 {
-        return 1;
+    // Whether six bytes are its name. By `==` of slices a read took twice the instructions, since that needs each whole name.
+    fn is_named(self, name: &[u8]) -> bool
+        requires { length name.now ≡ 6 }
+        ensures { result ≡ same name.now (name_of self.number) }
+    {
+        let axes = self.axes();
+        for (k, &byte) in name.iter().enumerate() {
+            if byte != byte_of(axes, k) {
+                return false;
+            }
+        }
+        true
     }
-    if mounting > 23 {
-        return 4;
-    }
-    0
 }
 
 // Writes the name of a mounting; a refused call leaves the buffer as it was.
-pub fn write_name(mounting: u8, name: &mut [u8]) -> u8
-    ensures { NameWritten mounting name.old name.new result }
+#[tactic(auto, unfolding(answer::specs::Refusals::refusal_of))]
+pub fn write_name(mounting: u8, name: &mut [u8]) -> Result<(), Refusal>
+    ensures { NameWritten mounting name.old name.new (number_in result) }
 {
-    let number = write_refusal(mounting, name.len());
-    if number != 0 {
-        return number;
+    if name.len() != 6 {
+        return Err(Refusal::Length);
     }
-    put_name(mounting, name);
-    0
-}
-
-// Whether six bytes are the name of a mounting.
-fn is_name(name: &[u8], mounting: u8) -> bool
-    requires { (length name.now ≡ 6) × (mounting < 24) }
-    ensures { result ≡ same name.now (name_of mounting) }
-{
-    let axes = vector::axes_of(mounting);
-    let mut k = 0;
-    while k < 6 {
-        if name[k] != byte_of(axes, k) {
-            return false;
-        }
-        k += 1;
-    }
-    true
+    let mounting = Mounting::try_from(mounting)?;
+    name.copy_from_slice(&mounting.name());
+    Ok(())
 }
 
 // The mounting that the bytes name.
-pub fn read_name(name: &[u8]) -> MountingRead
+pub fn read_name(name: &[u8]) -> Result<u8, Refusal>
     ensures { Gives (read_checks name.now) (named_by name.now) result }
 {
     if name.len() != 6 {
-        return MountingRead::Refused(1);
+        return Err(Refusal::Length);
     }
-    let mut mounting = 0u8;
-    while mounting < 24 {
-        if is_name(name, mounting) {
-            return MountingRead::Number(mounting);
+    for number in 0..24 {
+        let mounting = Mounting { number };
+        if mounting.is_named(name) {
+            return Ok(number);
         }
-        mounting += 1;
     }
-    MountingRead::Refused(4)
+    Err(Refusal::Unknown)
 }

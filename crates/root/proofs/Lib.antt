@@ -1,6 +1,7 @@
 -- in reading order
 pub mod Whole  -- the nearest whole root, without fractions
 pub mod Scaled  -- the digits of a finite number above zero
+pub mod Squared  -- how the code makes `squared_of` and half of `exponent_of`
 pub mod Patterns  -- bit patterns and sizes; larger bits, larger number
 pub mod Midpoints  -- x lies between the squares of the two midpoints; on the three above
 pub mod Neighbours  -- no float lies between the root and its neighbours

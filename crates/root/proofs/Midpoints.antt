@@ -132,11 +132,13 @@ module _ (b : ℕ) (f : Finite b) where
       ap (λ (x : ℕ). size_at (x + 1)) bits_is ∙ ap size_at (add_assoc (k * 8388608) q 1) ∙ size_at_lem k (q + 1) (omega (arith, q_range.0))
       (omega (arith, q_range.1))
 
-  under_holds : 4 * (size_at b * 2 ^ 149) < (size_at (root_bits_of b) + size_at (root_bits_of b + 1)) * (size_at (root_bits_of b) + size_at (root_bits_of b + 1))
+  under_holds
+      : 4 * (size_at b * 2 ^ 149) < (size_at (root_bits_of b) + size_at (root_bits_of b + 1)) * (size_at (root_bits_of b) + size_at (root_bits_of b + 1))
   under_holds = rw (squared_is, at, at_next) (under_mid (squared_of b) q (2 ^ k) (pow_pos k) q_near.1)
 
   -- q is r + 1, and r has 24 digits too
-  inside : 8388608 < q → (size_at (root_bits_of b - 1) + size_at (root_bits_of b)) * (size_at (root_bits_of b - 1) + size_at (root_bits_of b)) < 4 * (size_at b * 2 ^ 149)
+  inside : 8388608 < q
+      → (size_at (root_bits_of b - 1) + size_at (root_bits_of b)) * (size_at (root_bits_of b - 1) + size_at (root_bits_of b)) < 4 * (size_at b * 2 ^ 149)
   inside g =
       let r = q - 1 in
       let e : r + 1 ≡ q = omega arith in
@@ -149,7 +151,8 @@ module _ (b : ℕ) (f : Finite b) where
       back : (a q : ℕ) → 1 ≤ q → a + q - 1 ≡ a + (q - 1)
       back a q h = omega arith
 
-  edge : 8388608 ≡ q → (size_at (root_bits_of b - 1) + size_at (root_bits_of b)) * (size_at (root_bits_of b - 1) + size_at (root_bits_of b)) < 4 * (size_at b * 2 ^ 149)
+  edge : 8388608 ≡ q
+      → (size_at (root_bits_of b - 1) + size_at (root_bits_of b)) * (size_at (root_bits_of b - 1) + size_at (root_bits_of b)) < 4 * (size_at b * 2 ^ 149)
   edge g =
       let j = k - 1 in
       let e : suc j ≡ k = omega (arith, k_pos) in

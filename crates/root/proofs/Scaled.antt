@@ -45,9 +45,6 @@ moved b p h =
 pub zeros_ge : (b : ℕ) → 1 ≤ b → b < 8388608 → 8 ≤ count_leading_zeros 32 b
 zeros_ge b p h = let m = moved b p h in omega (arith, m.1, m.2)
 
-pub zeros_lt : (b : ℕ) → 1 ≤ b → b < 8388608 → count_leading_zeros 32 b - 8 < 32
-zeros_lt b p h = let m = moved b p h in omega (arith, m.1, m.2)
-
 places_of : (b : ℕ) (p : 1 ≤ b) (h : b < 8388608) → count_leading_zeros 32 b - 8 ≡ 23 - (moved b p h).0
 places_of b p h = let m = moved b p h in omega (arith, m.1, m.2)
 

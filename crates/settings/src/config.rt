@@ -1,14 +1,17 @@
 // What is derived from the settings, and which settings are sound.
 ghost use Rattle.std.specs.Prelude.{◌≡◌};
 ghost use Rattle.answer.specs.Refusals.{refusal_of};
+ghost use Rattle.answer.specs.Rows.{number_in};
 ghost use Rattle.settings.specs.Config.{known_convention, finite_settings, sound_settings, limit_of, derived_of, finite_config, settings_checks};
 ghost use Rattle.settings.specs.Axes.{over_of};
 
-use super::{Axes, Limit, Settings};
+use super::{Axes, Limit, NED, Settings};
+use answer::Refusal;
 use vector::Vector;
 
-// What is derived from the settings.
-#[derive(Clone, Copy)]
+// What is derived from the settings. Whether overrange is on stands beside its threshold, and is no Option: a threshold that is
+// handed in must be finite though overrange is off (`finite_config`), and theorem Over speaks of both.
+#[derive(Clone, Copy, Debug, PartialEq)]
 pub struct Config {
     pub sample_period: f32,
     pub gain: f32,
@@ -31,20 +34,18 @@ impl Settings {
     pub fn is_known(self) -> bool
         ensures { result ≡ known_convention self }
     {
-        self.convention <= 2
+        self.convention <= NED
     }
 
     #[tactic(auto, unfolding(crate::specs::Config::finite_settings))]
     pub fn is_finite(self) -> bool
         ensures { result ≡ finite_settings self }
     {
-        let acceleration = self.acceleration_rejection;
-        let magnetic = self.magnetic_rejection;
         number::is_finite(self.sample_rate)
             & number::is_finite(self.gain)
             & number::is_finite(self.gyroscope_range)
-            & acceleration.is_finite()
-            & magnetic.is_finite()
+            & self.acceleration_rejection.is_finite()
+            & self.magnetic_rejection.is_finite()
             & number::is_finite(self.rejection_timeout)
     }
 
@@ -52,11 +53,9 @@ impl Settings {
     pub fn is_sound(self) -> bool
         ensures { result ≡ sound_settings self }
     {
-        let acceleration = self.acceleration_rejection;
-        let magnetic = self.magnetic_rejection;
         (self.sample_rate > 0.0)
-            & acceleration.is_sound()
-            & magnetic.is_sound()
+            & self.acceleration_rejection.is_sound()
+            & self.magnetic_rejection.is_sound()
             & !(self.rejection_timeout < 0.0)
     }
 
@@ -77,8 +76,6 @@ impl Settings {
         ensures { result ≡ derived_of self }
     {
         let sample_period = 1.0 / self.sample_rate;
-        let acceleration = self.acceleration_rejection;
-        let magnetic = self.magnetic_rejection;
         Config {
             sample_period,
             gain: self.gain,
@@ -86,30 +83,30 @@ impl Settings {
                 * sample_period,
             overrange_enabled: self.gyroscope_range > 0.0,
             overrange_threshold: OVERRANGE_FACTOR * self.gyroscope_range,
-            acceleration_rejection: self.limit(acceleration),
-            magnetic_rejection: self.limit(magnetic),
+            acceleration_rejection: self.limit(self.acceleration_rejection),
+            magnetic_rejection: self.limit(self.magnetic_rejection),
             rejection_timeout: number::to_i32(self.sample_rate * self.rejection_timeout),
         }
     }
 
-    // The number of a start with these settings, 0 where it is accepted.
+    // Why a start with these settings is refused.
     #[tactic(auto, unfolding(answer::specs::Refusals::refusal_of))]
-    pub fn refusal(self) -> u8
-        ensures { result ≡ refusal_of (settings_checks self) }
+    pub fn check(self) -> Result<(), Refusal>
+        ensures { number_in result ≡ refusal_of (settings_checks self) }
     {
         if !self.is_known() {
-            return 4;
+            return Err(Refusal::Unknown);
         }
         if !self.is_finite() {
-            return 5;
+            return Err(Refusal::NotFinite);
         }
         if !self.is_sound() {
-            return 6;
+            return Err(Refusal::OutOfRange);
         }
         if !self.derived().is_finite() {
-            return 7;
+            return Err(Refusal::Overflow);
         }
-        0
+        Ok(())
     }
 }
 

@@ -9,8 +9,16 @@ pub use axes::Axes;
 pub use config::Config;
 pub use limit::Limit;
 
-// The convention is 0 for NWU, 1 for ENU, 2 for NED. Each of the two limits is the Rust's angle, or the squared limit that it stands for.
-#[derive(Clone, Copy)]
+// The conventions: which axes of the Earth x, y and z are. A number and no enum: settings that are handed in may hold any, and are
+// refused with 4 (`known_convention`, theorem ExactlyWhen), and where gravity and west lie is stated for any (half_gravity_of, half_west_of).
+pub const NWU: u8 = 0;
+
+pub const ENU: u8 = 1;
+
+pub const NED: u8 = 2;
+
+// Each of the two limits is the Rust's angle, or the squared limit that it stands for.
+#[derive(Clone, Copy, Debug, PartialEq)]
 pub struct Settings {
     pub sample_rate: f32,
     pub convention: u8,

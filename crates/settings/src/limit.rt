@@ -3,7 +3,7 @@ ghost use Rattle.std.specs.Prelude.{◌≡◌};
 ghost use Rattle.settings.specs.Limit.{given_of, finite_limit, sound_limit, squared_of};
 
 // A squared half residual, or the Rust's angle in degrees.
-#[derive(Clone, Copy)]
+#[derive(Clone, Copy, Debug, PartialEq)]
 pub enum Limit {
     Squared(f32),
     Degrees(f32),
@@ -11,6 +11,7 @@ pub enum Limit {
 
 const RIGHT_ANGLE: f32 = 90.0;
 
+// The two numbers of a limit are methods and no From: either could be the f32 that it becomes.
 impl Limit {
     // The number that was given, of either kind.
     pub fn given(self) -> f32

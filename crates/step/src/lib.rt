@@ -10,7 +10,7 @@ pub mod sensor; // sensor.rt: one sensor's rejection
 pub use settings::{Config, Settings};
 
 // One sensor's rejection, and how many updates in a row, up to now, have ignored the sensor.
-#[derive(Clone, Copy)]
+#[derive(Clone, Copy, Debug, PartialEq)]
 pub struct Rejection {
     pub half_residual: Vector,
     pub recovery_trigger: i32,

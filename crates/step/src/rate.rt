@@ -10,7 +10,7 @@ use vector::Vector;
 const DEG_TO_RAD: f32 = 0.017453292;
 
 // What startup leaves, and the gain to apply.
-#[derive(Clone, Copy)]
+#[derive(Clone, Copy, Debug, PartialEq)]
 pub struct Startup {
     pub startup: bool,
     pub startup_gain: f32,
@@ -19,6 +19,8 @@ pub struct Startup {
 }
 
 // The gain falls before use, and startup ends when it is no longer above the settings' gain.
+// What startup has comes one by one, and no struct: so startup_gain_of takes it, of which every theorem of an update is made.
+#[tactic(auto, unfolding(crate::specs::Rate::startup_gain_of))]
 pub fn startup_gain(
     config: Config,
     startup: bool,
@@ -27,17 +29,16 @@ pub fn startup_gain(
 ) -> Startup
     ensures { result ≡ startup_gain_of config startup startup_gain overrange_recovery }
 {
-    let gain = config.gain;
     if !startup {
         return Startup {
             startup,
             startup_gain,
             overrange_recovery,
-            gain,
+            gain: config.gain,
         };
     }
     let fallen = startup_gain - config.startup_gain_rate;
-    if fallen > gain {
+    if fallen > config.gain {
         return Startup {
             startup,
             startup_gain: fallen,
@@ -49,11 +50,12 @@ pub fn startup_gain(
         startup: false,
         startup_gain: fallen,
         overrange_recovery: Axes::NONE,
-        gain,
+        gain: config.gain,
     }
 }
 
 // The gyroscope in half radians, and the feedback times the gain.
+#[tactic(auto, unfolding(crate::specs::Rate::rate_of))]
 pub fn half_angular_rate(gyroscope: Vector, half_feedback: Vector, gain: f32) -> Vector
     ensures { result ≡ rate_of gyroscope half_feedback gain }
 {
@@ -61,6 +63,7 @@ pub fn half_angular_rate(gyroscope: Vector, half_feedback: Vector, gain: f32) ->
     half_gyroscope.add(half_feedback.mul(gain))
 }
 
+#[tactic(auto, unfolding(crate::specs::Rate::integrated_of))]
 pub fn integrate_quaternion(q: Quaternion, half_angular_displacement: Vector) -> Quaternion
     ensures { result ≡ integrated_of q half_angular_displacement }
 {

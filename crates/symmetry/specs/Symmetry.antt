@@ -2,7 +2,7 @@
 -- other as it is: the same calls are refused with the same numbers, settings, timer and active flag agree after each call, and rates and offset are
 -- those of the first run turned, zero's sign ignored.
 use Rattle.std.specs.Prelude.{◌≡◌, cond, List, [], ◌∷◌, map, ℕ, ◌<◌}
-use Rattle.answer.specs.declared.Answer.TheVariants.{Refused}
+use Rattle.answer.specs.Answers.{refused}
 use Rattle.answer.specs.Refusals.{refusal_of}
 use Rattle.answer.specs.Runs.{Told, answer, number, Step, run_of}
 use Rattle.vector.specs.declared.Vector.{Vector}
@@ -38,7 +38,7 @@ pub record Alike (m : Mounting) (a b : Bias) : Type 0 where
 
 pub data AlikeTold (m : Mounting) : Told → Told → Type 0 where
   both_rates : {v w : Vector} → TurnedBy m v w → AlikeTold m (answer (rates_of v)) (answer (rates_of w))
-  both_refused : (n : ℕ) → AlikeTold m (answer (Refused n)) (answer (Refused n))
+  both_refused : (n : ℕ) → AlikeTold m (answer (refused n)) (answer (refused n))
   both_number : (n : ℕ) → AlikeTold m (number n) (number n)
 
 pub record AlikeStep (m : Mounting) (p q : Step Bias) : Type 0 where

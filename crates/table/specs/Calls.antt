@@ -1,9 +1,13 @@
 -- 02, P12: a party, the table of eight rows, and each call on them: its checks, what it gives, and its promise.
-use Rattle.std.specs.Prelude.{ℕ, ◌≡◌, Bool, not, ◌&&◌, ◌||◌, List, [], ◌∷◌, ltb, eqb, get_or, set}
+use Rattle.answer.specs.Said.{alone}
+use Rattle.std.specs.Prelude.{ℕ, ◌≡◌, Bool, not, ◌&&◌, ◌||◌, List, ◌∷◌, ltb, eqb, get_or, set}
 use Rattle.std.specs.Float.{nan}
+use Rattle.std.specs.declared.result.Result.{Result}
+use Rattle.answer.specs.declared.refusal.Refusal.{Refusal}
+use Rattle.answer.specs.declared.change.Change.{Change}
 use Rattle.answer.specs.Refusals.{Check, check, refusal_of, accepted}
-use Rattle.answer.specs.Said.{Said, values, refusal}
-use Rattle.answer.specs.Promises.{Answered, Changed}
+use Rattle.answer.specs.Rows.{number_in}
+use Rattle.answer.specs.Promises.{Results, Changed}
 use Rattle.settings.specs.declared.Settings.{Settings}
 use Rattle.settings.specs.declared.limit.Limit.TheVariants.{Squared}
 use Rattle.settings.specs.Config.{known_convention, derived_of, settings_checks}
@@ -12,8 +16,6 @@ use Rattle.ahrs.specs.Filter.{fresh_of, with_settings}
 use Rattle.ahrs.specs.Calls.{change_checks}
 use Rattle.table.specs.declared.Table.{Table}
 use Rattle.table.specs.declared.Party.{Party}
-use Rattle.table.specs.declared.Settled.{Settled}
-use Rattle.table.specs.declared.start.Started as started
 
 abbrev pub party : Ahrs → ℕ → Party
 party filter row = record { filter = filter; row = row }
@@ -45,15 +47,11 @@ no_row row = ltb 7 row
 
 -- ---- a start: the filter's own, with the settings that it is made with, on a row
 
-abbrev pub start_said : started.Started → Said Party
-start_said (started.TheVariants.Fresh p) = values (p ∷ [])
-start_said (started.TheVariants.Refused n) = refusal n
-
 abbrev pub fresh_party : ℕ → Settings → Party
 fresh_party row s = party (fresh_of s (derived_of s)) row
 
-abbrev pub Starts : ℕ → Settings → started.Started → Type 0
-Starts row s r = Answered start_said started.TheVariants.Refused (settings_checks s) (started.TheVariants.Fresh (fresh_party row s)) r
+abbrev pub Starts : ℕ → Settings → Result Party Refusal → Type 0
+Starts row s r = Results alone (settings_checks s) (fresh_party row s) r
 
 -- ---- a choice
 
@@ -61,17 +59,17 @@ Starts row s r = Answered start_said started.TheVariants.Refused (settings_check
 unfoldable pub settled_of : Party → Settings → ℕ → Party
 settled_of p s row = party (with_settings p.filter s (derived_of s)) row
 
-abbrev pub Settles : Party → Settings → ℕ → Settled → Type 0
-Settles p s row r = Changed (change_checks p.filter s) (settled_of p s row) p r.party r.number
+abbrev pub Settles : Party → Settings → ℕ → Change Party → Type 0
+Settles p s row r = Changed (change_checks p.filter s) (settled_of p s row) p r.state (number_in r.result)
 
 -- 4 for a row above 7, chosen or in use; then 4 to 7 as settings do. s is what the row holds
 abbrev pub choose_checks : Party → ℕ → Settings → List Check
 choose_checks p row s = check 4 (no_row row || no_row p.row) ∷ change_checks p.filter s
 
-abbrev pub Chosen : Settings → Party → ℕ → Settled → Type 0
-Chosen s p row r = Changed (choose_checks p row s) (settled_of p s row) p r.party r.number
+abbrev pub Chosen : Settings → Party → ℕ → Change Party → Type 0
+Chosen s p row r = Changed (choose_checks p row s) (settled_of p s row) p r.state (number_in r.result)
 
-abbrev pub Chooses : Table → Party → ℕ → Settled → Type 0
+abbrev pub Chooses : Table → Party → ℕ → Change Party → Type 0
 Chooses t p row r = Chosen (row_of t row) p row r
 
 -- ---- a rewrite
@@ -87,13 +85,13 @@ rewrite_checks p shared s =
     check 10 shared ∷
     change_checks p.filter s
 
-abbrev pub Resettles : ℕ → Party → Settings → Settled → Type 0
-Resettles other p s r = Changed (rewrite_checks p (shared_with p other) s) (settled_of p s p.row) p r.party r.number
+abbrev pub Resettles : ℕ → Party → Settings → Change Party → Type 0
+Resettles other p s r = Changed (rewrite_checks p (shared_with p other) s) (settled_of p s p.row) p r.state (number_in r.result)
 
 -- the table after it: a refused rewrite leaves it as it was
 abbrev pub rewritten_of : Table → ℕ → Party → Settings → Table
 rewritten_of t other p s = accepted (refusal_of (rewrite_checks p (shared_with p other) s)) (with_row t p.row s) t
 
-pub record Rewrites (t : Table) (other : ℕ) (p : Party) (s : Settings) (t' : Table) (r : Settled) : Type 0 where
+pub record Rewrites (t : Table) (other : ℕ) (p : Party) (s : Settings) (t' : Table) (r : Change Party) : Type 0 where
   pub settled : Resettles other p s r
   pub table : t' ≡ rewritten_of t other p s

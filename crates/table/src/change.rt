@@ -1,62 +1,50 @@
 // A choice and a rewrite by value: of the table they are told what the row holds, and of the other party the row that it uses.
 ghost use Rattle.table.specs.Calls.{Settles, Chosen, Resettles};
 
-use super::{Party, Settled};
+use super::Party;
 use ahrs::Settings;
+use answer::{Change, Refusal};
+
+const LAST_ROW: u8 = 7;
 
 impl Party {
     // Settings set as `set_settings` sets them, and the row that has them; a refusal leaves both.
-    fn settle(self, settings: Settings, row: u8) -> Settled
+    #[tactic(auto, unfolding(crate::specs::Calls::settled_of))]
+    fn settle(self, settings: Settings, row: u8) -> Change<Party>
         ensures { Settles self settings row result }
     {
-        let old = self.filter;
-        let change = old.set_settings(settings);
-        let number = change.number;
-        if number != 0 {
-            return Settled {
-                party: self,
-                number,
-            };
-        }
-        let filter = change.state;
-        Settled {
-            party: Party { filter, row },
-            number: 0,
+        let change = self.filter.set_settings(settings);
+        match change.result {
+            Ok(()) => Change::made(Party {
+                filter: change.state,
+                row,
+            }),
+            Err(refusal) => Change::refused(self, refusal),
         }
     }
 
     // Any row may be chosen, one that the other uses too; `settings` is what it holds.
-    pub fn choose(self, row: u8, settings: Settings) -> Settled
+    #[tactic(auto, unfolding(answer::specs::Refusals::refusal_of))]
+    pub fn choose(self, row: u8, settings: Settings) -> Change<Party>
         ensures { Chosen settings self row result }
     {
-        if (row > 7) | (self.row > 7) {
-            return Settled {
-                party: self,
-                number: 4,
-            };
+        if (row > LAST_ROW) | (self.row > LAST_ROW) {
+            return Change::refused(self, Refusal::Unknown);
         }
         self.settle(settings, row)
     }
 
     // The row in use gets other settings, unless the other party uses it too.
-    pub fn rewrite(self, other: u8, settings: Settings) -> Settled
+    #[tactic(auto, unfolding(answer::specs::Refusals::refusal_of))]
+    pub fn rewrite(self, other: u8, settings: Settings) -> Change<Party>
         ensures { Resettles other self settings result }
     {
-        let row = self.row;
-        let filter = self.filter;
-        let old = filter.settings;
-        if (row > 7) | !(old.is_known() & settings.is_known()) {
-            return Settled {
-                party: self,
-                number: 4,
-            };
+        if (self.row > LAST_ROW) | !(self.filter.settings.is_known() & settings.is_known()) {
+            return Change::refused(self, Refusal::Unknown);
         }
-        if row == other {
-            return Settled {
-                party: self,
-                number: 10,
-            };
+        if self.row == other {
+            return Change::refused(self, Refusal::Shared);
         }
-        self.settle(settings, row)
+        self.settle(settings, self.row)
     }
 }

@@ -1,27 +1,33 @@
 // The foot: both parties, and a side for each call, so that a rewrite is told the row that the other party truly uses.
 ghost use Rattle.std.specs.Prelude.{◌≡◌};
-ghost use Rattle.table.specs.Sides.{party_of, other_row, with_party, with_filter, stood_of, FootChooses, FootRewrites};
+ghost use Rattle.table.specs.Sides.{other, party_of, other_row, with_party, with_filter, stood_of, FootChooses, FootRewrites};
 
-use super::{Party, Settled, Table, choose_lent, rewrite_lent};
+use super::{Party, Table, choose_lent, rewrite_lent};
 use ahrs::{Ahrs, Settings};
+use answer::Change;
 
-#[derive(Clone, Copy)]
+#[derive(Clone, Copy, Debug, PartialEq, Eq)]
 pub enum Side {
     First,
     Second,
 }
 
-#[derive(Clone, Copy)]
+impl Side {
+    pub fn other(self) -> Side
+        ensures { result ≡ other self }
+    {
+        match self {
+            Side::First => Side::Second,
+            Side::Second => Side::First,
+        }
+    }
+}
+
+// Two named fields and no array: a side is told apart where a party is read and where it is put back, and nowhere else.
+#[derive(Clone, Copy, Debug, PartialEq)]
 pub struct Foot {
     pub first: Party,
     pub second: Party,
-}
-
-// The foot after a choice or a rewrite, and 0 or a refusal's number.
-#[derive(Clone, Copy)]
-pub struct Stood {
-    pub foot: Foot,
-    pub number: u8,
 }
 
 impl Foot {
@@ -38,26 +44,20 @@ impl Foot {
     fn other_row(self, side: Side) -> u8
         ensures { result ≡ other_row side self }
     {
-        let other = match side {
-            Side::First => self.second,
-            Side::Second => self.first,
-        };
-        other.row
+        self.party(side.other()).row
     }
 
     fn with_party(self, side: Side, party: Party) -> Foot
         ensures { result ≡ with_party side party self }
     {
-        let first = self.first;
-        let second = self.second;
         match side {
             Side::First => Foot {
                 first: party,
-                second,
+                ..self
             },
             Side::Second => Foot {
-                first,
                 second: party,
+                ..self
             },
         }
     }
@@ -67,32 +67,30 @@ impl Foot {
         ensures { result ≡ with_filter side filter self }
     {
         let party = self.party(side);
-        let row = party.row;
-        self.with_party(side, Party { filter, row })
+        self.with_party(side, Party { filter, ..party })
     }
 
-    fn stood(self, side: Side, settled: Settled) -> Stood
-        ensures { result ≡ stood_of side settled self }
+    // One party's change, of the foot.
+    fn stood(self, side: Side, change: Change<Party>) -> Change<Foot>
+        ensures { result ≡ stood_of side change self }
     {
-        let party = settled.party;
-        let foot = self.with_party(side, party);
-        Stood {
-            foot,
-            number: settled.number,
+        Change {
+            state: self.with_party(side, change.state),
+            result: change.result,
         }
     }
 
-    pub fn choose(self, table: &Table, side: Side, row: u8) -> Stood
+    pub fn choose(self, table: &Table, side: Side, row: u8) -> Change<Foot>
         ensures { FootChooses table.now self side row result }
     {
-        let settled = choose_lent(table, self.party(side), row);
-        self.stood(side, settled)
+        let change = choose_lent(table, self.party(side), row);
+        self.stood(side, change)
     }
 
-    pub fn rewrite(self, table: &mut Table, side: Side, settings: Settings) -> Stood
+    pub fn rewrite(self, table: &mut Table, side: Side, settings: Settings) -> Change<Foot>
         ensures { FootRewrites table.old self side settings table.new result }
     {
-        let settled = rewrite_lent(table, self.party(side), self.other_row(side), settings);
-        self.stood(side, settled)
+        let change = rewrite_lent(table, self.party(side), self.other_row(side), settings);
+        self.stood(side, change)
     }
 }

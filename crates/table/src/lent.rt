@@ -1,24 +1,28 @@
 // The table lent by its owner: for a choice to be read, for a rewrite to be written. One row of it is touched, and nothing of it is copied beside.
+// The rules are the calls' by value; these look the row up (`Chooses`) and write it (`Rewrites`).
 ghost use Rattle.table.specs.Calls.{Chooses, Rewrites};
 
-use super::{Party, Settled, Table, slot};
+use super::{Party, Table};
 use ahrs::Settings;
+use answer::{Change, Refusal};
 
-pub fn choose_lent(table: &Table, party: Party, row: u8) -> Settled
+#[tactic(auto, unfolding(answer::specs::Refusals::refusal_of, crate::specs::Calls::row_of))]
+pub fn choose_lent(table: &Table, party: Party, row: u8) -> Change<Party>
     ensures { Chooses table.now party row result }
 {
-    let at = slot(row);
-    let settings = table.rows[at];
-    party.choose(row, settings)
+    match table.rows.get(row as usize) {
+        Some(settings) => party.choose(row, *settings),
+        None => Change::refused(party, Refusal::Unknown),
+    }
 }
 
-pub fn rewrite_lent(table: &mut Table, party: Party, other: u8, settings: Settings) -> Settled
+#[tactic(auto, unfolding(answer::specs::Refusals::refusal_of, crate::specs::Calls::with_row))]
+pub fn rewrite_lent(table: &mut Table, party: Party, other: u8, settings: Settings) -> Change<Party>
     ensures { Rewrites table.old other party settings table.new result }
 {
-    let settled = party.rewrite(other, settings);
-    if settled.number == 0 {
-        let at = slot(party.row);
-        table.rows[at] = settings;
+    let change = party.rewrite(other, settings);
+    if change.result.is_ok() {
+        table.rows[party.row as usize] = settings;
     }
-    settled
+    change
 }

@@ -1,27 +1,28 @@
-// An owner of the table that lends it for one call of the foot: what is above it needs no reference.
+// An owner of the table that lends it for one call of the foot: what is above it needs no reference. Both are one call of the foot's own, and stand
+// since each has a promise of its own (`FootChooses` and `FootRewrites`, of the table that comes back).
 ghost use Rattle.table.specs.Sides.{FootChooses, FootRewrites};
 
 use super::Table;
-use super::foot::{Foot, Side, Stood};
+use super::foot::{Foot, Side};
 use ahrs::Settings;
+use answer::Change;
 
 // The table after a rewrite by its owner, and what that gives.
-#[derive(Clone, Copy)]
+#[derive(Clone, Copy, Debug, PartialEq)]
 pub struct Owned {
     pub table: Table,
-    pub stood: Stood,
+    pub stood: Change<Foot>,
 }
 
-pub fn choose_owned(table: Table, foot: Foot, side: Side, row: u8) -> Stood
+pub fn choose_owned(table: Table, foot: Foot, side: Side, row: u8) -> Change<Foot>
     ensures { FootChooses table foot side row result }
 {
     foot.choose(&table, side, row)
 }
 
-pub fn rewrite_owned(table: Table, foot: Foot, side: Side, settings: Settings) -> Owned
+pub fn rewrite_owned(mut table: Table, foot: Foot, side: Side, settings: Settings) -> Owned
     ensures { FootRewrites table foot side settings result.table result.stood }
 {
-    let mut own = table;
-    let stood = foot.rewrite(&mut own, side, settings);
-    Owned { table: own, stood }
+    let stood = foot.rewrite(&mut table, side, settings);
+    Owned { table, stood }
 }

@@ -1,36 +1,27 @@
-// A start: the filter's own, on the row of its place.
+// A start: the filter's own, on the row of its place. `first` and `second` are `started` at a row, and stand by their names, since each promises its row.
 ghost use Rattle.table.specs.Calls.{Starts};
 
 use super::Party;
 use ahrs::{Ahrs, Settings};
-
-// The party, or a refusal's number.
-#[derive(Clone, Copy)]
-pub enum Started {
-    Fresh(Party),
-    Refused(u8),
-}
+use answer::Refusal;
 
 impl Party {
-    fn started(settings: Settings, row: u8) -> Started
+    fn started(settings: Settings, row: u8) -> Result<Party, Refusal>
         ensures { Starts row settings result }
     {
-        let start = Ahrs::with_settings(settings);
-        match start {
-            ahrs::Started::Fresh(filter) => Started::Fresh(Party { filter, row }),
-            ahrs::Started::Refused(number) => Started::Refused(number),
-        }
+        let filter = Ahrs::with_settings(settings)?;
+        Ok(Party { filter, row })
     }
 
     // The first party uses row 0, with the settings that it is made with.
-    pub fn first(settings: Settings) -> Started
+    pub fn first(settings: Settings) -> Result<Party, Refusal>
         ensures { Starts 0 settings result }
     {
         Party::started(settings, 0)
     }
 
     // The second uses row 1.
-    pub fn second(settings: Settings) -> Started
+    pub fn second(settings: Settings) -> Result<Party, Refusal>
         ensures { Starts 1 settings result }
     {
         Party::started(settings, 1)

@@ -36,7 +36,7 @@ in_decimal (suc k) (suc room) n r h l =
     (glyph_is n)
     ∙ sym (more_digits room n (omega (arith, b)))
 
-pub is_decimal : (k n : ℕ) → k ≤ 20 → IsDigitCount 10 1 n k → last_digits 10 k n ≡ decimal_of n
+is_decimal : (k n : ℕ) → k ≤ 20 → IsDigitCount 10 1 n k → last_digits 10 k n ≡ decimal_of n
 unfolding decimal_of
 is_decimal zero n r f = absurd (omega (arith, f.0))
 is_decimal (suc k) n r f =
@@ -46,7 +46,7 @@ is_decimal (suc k) n r f =
 -- ---- how many digits
 
 -- a number of 64 bits has no more than 20
-pub twenty : (k n : ℕ) → n < 18446744073709551616 → IsDigitCount 10 1 n k → k ≤ 20
+twenty : (k n : ℕ) → n < 18446744073709551616 → IsDigitCount 10 1 n k → k ≤ 20
 twenty k n h f = go (dec_lt 20 k)
   where
     go : Dec (20 < k) → k ≤ 20
@@ -54,6 +54,11 @@ twenty k n h f = go (dec_lt 20 k)
     go (yes l) =
         let a : 10 ^ 20 ≤ 10 ^ (k - 1) = pow-le-pow_right {n = 10} (omega arith) {i = 20} {j = k - 1} (omega arith) in
         absurd (omega (arith, a, f.2 (omega arith)))
+
+-- so the kit's digits of a number of 64 bits are the number in decimal
+pub kit_digits : {k n : ℕ} {digits : List ℕ} → n < 18446744073709551616 → digits ≡ last_digits 10 k n → IsDigitCount 10 1 n k
+    → digits ≡ decimal_of n
+kit_digits {k} {n} h e f = e ∙ is_decimal k n (twenty k n h f) f
 
 few : (k room n : ℕ) → n < 10 ^ suc k → length (decimal_in room n) ≤ suc k
 few k zero n h = omega arith

@@ -1,25 +1,15 @@
 -- The promise of a machine that is fed: refused, accepted, what is printed stands within the slice, and it has one result. Assumes nothing.
-use Prim.Native.Nat.{ℕ, zero, suc, ◌+◌, ◌-◌, ◌≤◌, ◌<◌}
+use Prim.Native.Nat.{ℕ, zero, suc, ◌+◌, ◌-◌, ◌≤◌}
 use native.Mathlib.Omega.{arith}
-use native.Mathlib.Decide.{dec_lt}
 use mathlib.Core.Path.{◌≡◌, ap, sym, ◌∙◌}
 use mathlib.Core.List.{List}
 use lib.ListN.{length, drop, length-append, length-drop}
 use Rattle.answer.specs.Refusals.{Check, refusal_of, accepted}
-use Rattle.text.specs.Putting.{over, Puts, Fits, Feeds, FedOnce}
-use Rattle.text.proofs.Putting.{too_long, fits_put}
+use Rattle.text.specs.Putting.{over, Puts, Feeds, FedOnce}
 
 pub longer : (text old : List ℕ) → length (over text old) ≡ length text + (length old - length text)
 unfolding over
 longer text old = length-append text (drop (length text) old) ∙ ap (λ (k : ℕ). length text + k) (length-drop (length text) old)
-
--- a slice keeps its length
-pub fits_long : (text old : List ℕ) {after : List ℕ} {n : ℕ} → Fits text old after n → length after ≡ length old
-fits_long text old {after} f = go (dec_lt (length old) (length text))
-  where
-    go : Dec (length old < length text) → length after ≡ length old
-    go (yes h) = ap length (f.holds ∙ sym (too_long text old h).holds)
-    go (no h) = ap length (fits_put text old (omega arith) f).holds ∙ longer text old ∙ omega arith
 
 module _ {S : Type 0} (cs : List Check) (before new : S) (text old : List ℕ) where
   pub refused : (k : ℕ) → refusal_of cs ≡ suc k → Feeds cs before new text old old before 0 (suc k)
@@ -31,7 +21,8 @@ module _ {S : Type 0} (cs : List Check) (before new : S) (text old : List ℕ) w
         holds = ap (λ (j : ℕ). accepted j (over text old) old) (sym e);
       }
 
-  pub fed : {after : List ℕ} {now : S} {n k : ℕ} → refusal_of cs ≡ 0 → k ≡ 0 → now ≡ new → Puts text old after n → Feeds cs before new text old after now n k
+  pub fed : {after : List ℕ} {now : S} {n k : ℕ} → refusal_of cs ≡ 0 → k ≡ 0 → now ≡ new → Puts text old after n
+      → Feeds cs before new text old after now n k
   fed e z f p =
       record {
         number = z ∙ sym e;

@@ -1,5 +1,5 @@
 -- in reading order
-pub mod Passing  -- what comes to the last arm of a match
+mod Glyphs  -- the hexadecimal digits in their order
 pub mod Putting  -- a text over what a slice held, and where it fits
 pub mod Pairs  -- a line of four words; on Putting
 pub mod Feeding  -- a machine that is fed: refused, accepted, within the slice, and one result

@@ -3,27 +3,18 @@ use Prim.Native.Nat.{ℕ, suc, ◌+◌, ◌-◌, ◌≤◌, ◌<◌}
 use native.Mathlib.Omega.{arith}
 use mathlib.Core.Path.{◌≡◌, ap, ap₂, sym, ◌∙◌}
 use mathlib.Core.List.{List, [], ◌∷◌, ◌++◌, append_assoc}
-use lib.ListN.{length, take, drop, set, length-append, length-set}
+use lib.ListN.{length, take, drop, set, length-append}
 use lib.Seq.{drop-drop, set_split}
 use borrow.Rule.Slice.PartMut.{mid_of, put_mid}
 use Rattle.text.specs.Text.{space, newline, decimal_of, named_of}
 use Rattle.text.specs.Putting.{over, Puts, Fits}
-use Rattle.text.proofs.Putting.{rest_long, behind, over_over, too_long, put_fits}
+use Rattle.text.proofs.Putting.{behind, over_over, too_long, put_fits}
 use Rattle.text.proofs.Feeding.{longer}
 
 pub named_long : (name : List ℕ) (n : ℕ) → length (named_of name n) ≡ length name + 2 + length (decimal_of n)
 unfolding named_of
 named_long name n =
     omega (arith, length-append (name ++ (space ∷ decimal_of n)) (newline ∷ []), length-append name (space ∷ decimal_of n))
-
--- the room that the code asks for, in two tests
-pub room : (a b k : ℕ) → k + 2 ≤ a → b ≤ a - (k + 2) → b + (k + 2) ≤ a
-room a b k h l = omega arith
-
--- behind the name and the space there is room for the digits
-pub digits_room : (one : List ℕ) (n : ℕ) {k : ℕ} → n + (k + 2) ≤ length one
-    → k ≤ length (mid_of (n + 1) (length (set one n space) - (n + 1)) (set one n space))
-digits_room one n h = omega (arith, rest_long (n + 1) (set one n space), length-set one n space)
 
 -- a byte behind a text
 put_byte : (t old : List ℕ) (b : ℕ) → length t < length old → set (over t old) (length t) b ≡ over (t ++ (b ∷ [])) old

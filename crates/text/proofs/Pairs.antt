@@ -1,20 +1,13 @@
--- A line of four words: the digits of two, and two pairs one behind the other. Assumes nothing.
+-- A line of four words: two pairs one behind the other. Assumes nothing.
 use Prim.Native.Nat.{ℕ, ◌-◌, ◌≤◌, ◌<◌}
 use native.Mathlib.Omega.{arith}
 use mathlib.Core.Path.{◌≡◌, refl, ap₂, sym, ◌∙◌}
-use mathlib.Core.List.{List, [], ◌∷◌, ◌++◌}
-use lib.ListN.{length, take, drop, get_or}
+use mathlib.Core.List.{List, ◌++◌}
+use lib.ListN.{length, take, drop}
 use borrow.Rule.Slice.PartMut.{mid_of, put_mid}
 use Rattle.text.specs.Text.{space, newline, word_of, pair_of, words_of}
 use Rattle.text.specs.Putting.{over, Puts, Fits}
 use Rattle.text.proofs.Putting.{behind, over_over, too_long, put_fits}
-
-pub makes_pair : (a b end : ℕ) {x y : List ℕ} → x ≡ word_of a → y ≡ word_of b
-    → get_or x 0 0 ∷ get_or x 1 0 ∷ get_or x 2 0 ∷ get_or x 3 0 ∷ get_or x 4 0 ∷ get_or x 5 0 ∷ get_or x 6 0 ∷ get_or x 7 0 ∷ 32 ∷
-    get_or y 0 0 ∷ get_or y 1 0 ∷ get_or y 2 0 ∷ get_or y 3 0 ∷ get_or y 4 0 ∷ get_or y 5 0 ∷ get_or y 6 0 ∷ get_or y 7 0 ∷ end ∷ []
-    ≡ pair_of a b end
-unfolding pair_of word_of
-makes_pair a b end ex ey = rw (ex, ey)
 
 pair_long : (a b end : ℕ) → length (pair_of a b end) ≡ 18
 unfolding pair_of word_of

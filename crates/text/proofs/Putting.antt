@@ -1,4 +1,4 @@
--- A text over what a slice held: nothing, a copy, one text behind another, and a text where it fits. Assumes nothing.
+-- A text over what a slice held: nothing, one text behind another, and a text where it fits. Assumes nothing.
 use Prim.Native.Nat.{ℕ, ◌+◌, ◌-◌, ◌≤◌, ◌<◌}
 use native.Mathlib.Omega.{arith}
 use mathlib.Core.Path.{◌≡◌, refl, ap, ap₂, sym, ◌∙◌, subst}
@@ -16,13 +16,6 @@ puts_as {t} {u} {old} {after} {n} e p = subst (λ (x : List ℕ). Puts x old aft
 pub puts_nothing : (old : List ℕ) → Puts [] old old 0
 unfolding over
 puts_nothing old = record { count = refl; holds = refl }
-
--- a copy of a whole text
-pub copied : {src text : List ℕ} (old : List ℕ) {after : List ℕ} {n : ℕ} → src ≡ text → n ≡ length src → after ≡ take (length src) src ++ drop (length src) old
-    → Puts text old after n
-unfolding over
-copied {src} old e c h =
-    puts_as e (record { count = c; holds = h ∙ ap (λ (x : List ℕ). x ++ drop (length src) old) (take_all (length src) src (omega arith)) })
 
 -- ---- one text behind another
 

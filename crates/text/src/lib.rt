@@ -1,4 +1,7 @@
 // What the programs print: a word as eight hexadecimal digits, a whole number in decimal, a name with its number, and the line of a refusal.
+//
+// It goes into lent slices, and the digits into an array, since there is no heap: of std only a `String` is promised to hold what `Display`
+// prints. A function answers how many bytes it put, which are none where they have no room (`Fits`).
 #![tactic(auto)]
 
 mod words; // words.rt: a line of four words
@@ -6,35 +9,21 @@ mod words; // words.rt: a line of four words
 ghost use Rattle.std.specs.Prelude.{◌≡◌, ◌≤◌, ◌%◌, length};
 ghost use Rattle.text.specs.Text.{digit_of, word_of, decimal_of, named_of, refused_of, last_line};
 ghost use Rattle.text.specs.Putting.{Fits, Puts};
+ghost use Rattle.answer.specs.Rows.{row_of, number_in};
 
+use answer::Refusal;
 pub use words::put_words;
 
-// The last hexadecimal digit of a number, upper case. A match is a table in memory, and takes fewer instructions than a test and a sum.
-#[tactic(auto, unfolding(crate::specs::Text::digit_of))]
+const DIGITS: [u8; 16] = *b"0123456789ABCDEF";
+
+// The last hexadecimal digit of a number, upper case.
 fn digit(n: u32) -> u8
     ensures { result ≡ digit_of (n % 16) }
 {
-    match n % 16 {
-        0 => b'0',
-        1 => b'1',
-        2 => b'2',
-        3 => b'3',
-        4 => b'4',
-        5 => b'5',
-        6 => b'6',
-        7 => b'7',
-        8 => b'8',
-        9 => b'9',
-        10 => b'A',
-        11 => b'B',
-        12 => b'C',
-        13 => b'D',
-        14 => b'E',
-        _ => b'F',
-    }
+    DIGITS[(n % 16) as usize]
 }
 
-// A word, highest digit first.
+// A word, highest digit first. A map over the places would have to show of each that it is not 0, to divide by it.
 #[tactic(auto, unfolding(crate::specs::Text::word_of))]
 pub fn word(n: u32) -> [u8; 8]
     ensures { result ≡ word_of n }
@@ -87,10 +76,7 @@ pub fn put_named(name: &[u8], number: u64, out: &mut [u8]) -> usize
 {
     let mut digits = [0u8; 20];
     let k = io::decimal(number, &mut digits);
-    if out.len() < k + 2 {
-        return 0;
-    }
-    if out.len() - (k + 2) < name.len() {
+    if out.len() < name.len().saturating_add(k + 2) {
         return 0;
     }
     let n = copy(name, out);
@@ -102,18 +88,18 @@ pub fn put_named(name: &[u8], number: u64, out: &mut [u8]) -> usize
 
 // The line of a refusal.
 #[tactic(auto, unfolding(crate::specs::Text::refused_of, crate::specs::Text::named_of))]
-pub fn put_refused(number: u8, out: &mut [u8]) -> usize
-    ensures { Fits (refused_of number) out.old out.new result }
+pub fn put_refused(refusal: Refusal, out: &mut [u8]) -> usize
+    ensures { Fits (refused_of (row_of refusal)) out.old out.new result }
 {
-    put_named(b"refused", number as u64, out)
+    put_named(b"refused", refusal.number() as u64, out)
 }
 
 // The last line of a log: that of a refusal, where one ended it.
-pub fn put_last(number: u8, out: &mut [u8]) -> usize
-    ensures { Fits (last_line number) out.old out.new result }
+pub fn put_last(outcome: Result<(), Refusal>, out: &mut [u8]) -> usize
+    ensures { Fits (last_line (number_in outcome)) out.old out.new result }
 {
-    if number == 0 {
-        return 0;
+    match outcome {
+        Ok(()) => 0,
+        Err(refusal) => put_refused(refusal, out),
     }
-    put_refused(number, out)
 }

@@ -5,7 +5,8 @@ ghost use Rattle.text.specs.Putting.{Fits};
 
 use super::{copy, word};
 
-// Two words, one space apart, and what ends them.
+// Two words, one space apart, and what ends them: arrays are joined by their elements alone.
+#[tactic(auto, unfolding(crate::specs::Text::pair_of, crate::specs::Text::word_of))]
 fn pair(a: u32, b: u32, end: u8) -> [u8; 18]
     ensures { result ≡ pair_of a b end }
 {
@@ -24,9 +25,7 @@ pub fn put_words(a: u32, b: u32, c: u32, d: u32, out: &mut [u8]) -> usize
     if out.len() < 36 {
         return 0;
     }
-    let first = pair(a, b, b' ');
-    let second = pair(c, d, b'\n');
-    copy(&first, out);
-    copy(&second, &mut out[18..]);
+    copy(&pair(a, b, b' '), out);
+    copy(&pair(c, d, b'\n'), &mut out[18..]);
     36
 }

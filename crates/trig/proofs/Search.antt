@@ -1,7 +1,6 @@
 -- The bisection keeps the tangent between the ends of its span, and 22 halvings leave one step. Assumes nothing.
 use Rattle.std.proofs.Common.{◌≡◌, ℕ, zero, suc, ◌+◌, ◌*◌, ◌/◌, ◌<◌, ◌≤◌, Bool, true, false, cond, leb, sym, refl, ap, ◌∙◌, subst, inl, inr, zero-le, add-one}
-use Rattle.std.proofs.Common.{arith, lit<, lit≤, le-leb, leb-false, leb-true}
-use borrow.Author.Tests.{lt-leb}
+use Rattle.std.proofs.Common.{arith, lit<, lit≤, leb-false, leb-true}
 use Rattle.trig.specs.declared.octant.Span.{Span}
 use Rattle.trig.specs.Fixed.{scaled_of, stage_of, sine_fixed_of, cosine_fixed_of}
 use Rattle.trig.specs.Wave.{radians_of}
@@ -87,15 +86,6 @@ one_step p P = omega (arith, (spanned p 22 P).room, no_room)
 
 pub between : (p i : ℕ) {s : Span} → p ≤ tangent_one → s ≡ span_of p i → Between p s
 between p i P e = subst (λ (z : Span). Between p z) (sym e) (spanned p i P).between
-
-module _ (p : ℕ) (s : Span) {a b : ℕ} (rise : a ≡ rise_of (mid s)) (run : b ≡ run_of p (mid s)) where
-  pub takes_upper : a ≤ b → span (mid s) s.hi ≡ halved_of p s
-  unfolding halved_of
-  takes_upper h = rw (le-leb (rise_of (mid s)) (run_of p (mid s)) (rw (rise, run) at h))
-
-  pub takes_lower : b < a → span s.lo (mid s) ≡ halved_of p s
-  unfolding halved_of
-  takes_lower h = rw (lt-leb (rise_of (mid s)) (run_of p (mid s)) (rw (rise, run) at h))
 
 pub once_more : (p i : ℕ) {s t : Span} → s ≡ span_of p i → t ≡ halved_of p s → t ≡ span_of p (i + 1)
 unfolding span_of

@@ -8,8 +8,11 @@ use Rattle.answer.specs.Refusals.{refusal_of}
 use Rattle.number.specs.Float32.{◌⊗◌, largest, infinity}
 use Rattle.number.specs.Same.{fabsf_of}
 use Rattle.number.proofs.Apart.{apart, bits, unlike, nought, minus_nought, one, minus_one, half, two}
-use Rattle.trig.specs.declared.calls.Number.{Number}
-use Rattle.trig.specs.declared.calls.Number.TheVariants.{Value, Refused}
+use Rattle.std.specs.declared.result.Result.{Result}
+use Rattle.std.specs.declared.result.Result.TheVariants.{Ok, Err}
+use Rattle.answer.specs.declared.refusal.Refusal.{Refusal}
+use Rattle.answer.specs.declared.refusal.Refusal.TheVariants.{NotFinite, OutOfRange, Overflow}
+use Rattle.answer.specs.Rows.{row_of}
 use Rattle.trig.specs.Series.{sine_num, sine_den, cosine_num, cosine_den}
 use Rattle.trig.specs.Degrees.{in_turn, turns, left, left_minus, quarter, wave_at, sine_at, cosine_at, within}
 use Rattle.trig.specs.Fixed.{scaled_of, stage_of, sine_fixed_of, cosine_fixed_of, per_degree_of}
@@ -103,22 +106,22 @@ of_both = (λ h. apart bits h.0 refl, λ h. apart bits h.0 refl, λ h. apart bit
 -- ---- the calls
 
 -- a number's code; a refusal's is beyond every pattern
-abbrev code : Number → ℕ
-code (Value v) = bits v
-code (Refused n) = 0x1_0000_0000 + n
+abbrev code : Result Float Refusal → ℕ
+code (Ok v) = bits v
+code (Err e) = 0x1_0000_0000 + row_of e
 
-abbrev Says : (Float → Float) → Float → Number → Type 0
+abbrev Says : (Float → Float) → Float → Result Float Refusal → Type 0
 Says f x r = Gives x (f x) r
 
 -- of either: 30 refused; 400 refused with 5, with 7, and taken; NaN refused with 6, and taken
 pub of_either
     : (f : Float → Float)
-    → (Says f thirty (Refused 6) → ⊥)
-    × (Says f far (Refused 5) → ⊥)
-    × (Says f far (Refused 7) → ⊥)
-    × (Says f far (Value half) → ⊥)
-    × (Says f nan (Refused 6) → ⊥)
-    × (Says f nan (Value nan) → ⊥)
+    → (Says f thirty (Err OutOfRange) → ⊥)
+    × (Says f far (Err NotFinite) → ⊥)
+    × (Says f far (Err Overflow) → ⊥)
+    × (Says f far (Ok half) → ⊥)
+    × (Says f nan (Err OutOfRange) → ⊥)
+    × (Says f nan (Ok nan) → ⊥)
 unfolding refusal_of le lt eq neg of_bits
 of_either f = (
   λ h. unlike 6 0 refl h.number,
@@ -130,12 +133,12 @@ of_either f = (
 )
 
 -- answers of 0 and of 0.5001 for a half
-pub of_sin_degrees : (Says sin_of thirty (Value nought) → ⊥) × (AnswersNear (sine_at thirty) (Value over_half) → ⊥)
+pub of_sin_degrees : (Says sin_of thirty (Ok nought) → ⊥) × (AnswersNear (sine_at thirty) (Ok over_half) → ⊥)
 unfolding sin_of slope_of float_of size_of minus_of grid_of radians_of sine_fixed_of cosine_fixed_of per_degree_of scaled_of stage_of turns left left_minus
     fabsf_of le lt eq neg add sum mul div round units odd of_int of_bits to_bits refusal_of within wave_at quarter sine_num sine_den cosine_num cosine_den
 of_sin_degrees = (λ h. apart code h.exact refl, λ h. h)
 
-pub of_cos_degrees : (Says cos_of sixty (Value nought) → ⊥) × (AnswersNear (cosine_at sixty) (Value over_half) → ⊥)
+pub of_cos_degrees : (Says cos_of sixty (Ok nought) → ⊥) × (AnswersNear (cosine_at sixty) (Ok over_half) → ⊥)
 unfolding cos_of float_of size_of minus_of grid_of radians_of sine_fixed_of cosine_fixed_of scaled_of stage_of turns left left_minus
     le lt eq neg add sum div round units odd of_int of_bits to_bits refusal_of within wave_at quarter sine_num sine_den cosine_num cosine_den
 of_cos_degrees = (λ h. apart code h.exact refl, λ h. h)
@@ -223,11 +226,11 @@ of_angle_exactly = (
 
 -- (0, 0) refused; a NaN and an infinity taken; a NaN refused with 6; and of (1, 2) a constant 0
 pub of_angle_degrees
-    : (GivesAngle nought nought (Refused 5) → ⊥)
-    × (GivesAngle one nan (Value nan) → ⊥)
-    × (GivesAngle infinity one (Value ninety) → ⊥)
-    × (GivesAngle nan one (Refused 6) → ⊥)
-    × (GivesAngle one two (Value nought) → ⊥)
+    : (GivesAngle nought nought (Err NotFinite) → ⊥)
+    × (GivesAngle one nan (Ok nan) → ⊥)
+    × (GivesAngle infinity one (Ok ninety) → ⊥)
+    × (GivesAngle nan one (Err OutOfRange) → ⊥)
+    × (GivesAngle one two (Ok nought) → ⊥)
 unfolding angle_of bearing_of degrees_of ratio_of octant_of guess_of sine_step cosine_step steps_of radians_of sine_fixed_of cosine_fixed_of
     scaled_of stage_of fabsf_of
     le lt eq neg div round units odd of_int of_bits to_bits refusal_of
@@ -240,6 +243,6 @@ of_angle_degrees = (
 )
 
 -- what is answered for (1, 2) mirrored, and for (0, -1) -180
-pub of_answered_angle : (AnswersAngled one two (Value mirrored) → ⊥) × (AnswersAngled nought minus_one (Value (neg straight)) → ⊥)
+pub of_answered_angle : (AnswersAngled one two (Ok mirrored) → ⊥) × (AnswersAngled nought minus_one (Ok (neg straight)) → ⊥)
 unfolding is_angle wave_at turns left left_minus quarter sine_num sine_den cosine_num cosine_den of_bits neg le lt eq
 of_answered_angle = (λ h. refuted (unlike _ _ refl) (λ t. t) h, λ h. refuted (unlike _ _ refl) (λ t. t) h)

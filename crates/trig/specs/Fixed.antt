@@ -1,9 +1,13 @@
 -- The series as the code works them out, in fixed point: a number n stands for n / 2 ^ 30, and every product is cut toward zero.
-use Rattle.std.specs.Prelude.{ℕ, ◌+◌, ◌-◌, ◌*◌, ◌/◌}
+use Rattle.std.specs.Prelude.{ℕ, ◌+◌, ◌-◌, ◌*◌, ◌/◌, ◌<◌, ◌≤◌, List, [], ◌∷◌}
 
 -- 1: 2 ^ 30
 abbrev pub one : ℕ
 one = 1073741824
+
+-- what a product may be divided by
+abbrev pub IsDivisor : ℕ → Type 0
+IsDivisor c = (0 < c) × (c ≤ 128)
 
 -- a * b / c
 unfoldable pub scaled_of : ℕ → ℕ → ℕ → ℕ
@@ -12,6 +16,15 @@ scaled_of a b c = a * b / (c * one)
 -- 1 - u * h / c
 unfoldable pub stage_of : ℕ → ℕ → ℕ → ℕ
 stage_of u h c = one - scaled_of u h c
+
+-- a stage for each divisor, the innermost first, from h on
+abbrev pub stages_of : ℕ → ℕ → List ℕ → ℕ
+stages_of u h [] = h
+stages_of u h (c ∷ cs) = stages_of u (stage_of u h c) cs
+
+-- from 1 on, at the square of t
+abbrev pub series_of : ℕ → List ℕ → ℕ
+series_of t cs = stages_of (scaled_of t t 1) one cs
 
 -- what the sine of t has of t: 1 - u / 6 * (1 - u / 20 * (1 - u / 42 * (1 - u / 72 * (1 - u / 110)))), where u = t * t
 abbrev pub share_of : ℕ → ℕ

@@ -1,6 +1,6 @@
-// The series in fixed point: a number n stands for n / 2^30, and every product is cut toward zero.
-ghost use Rattle.std.specs.Prelude.{◌≡◌, ◌<◌, ◌≤◌};
-ghost use Rattle.trig.specs.Fixed.{one, slope, scaled_of, stage_of, share_of, sine_fixed_of, cosine_fixed_of, per_degree_of};
+// The series in fixed point: every product is cut toward zero.
+ghost use Rattle.std.specs.Prelude.{◌≡◌, ◌≤◌, All};
+ghost use Rattle.trig.specs.Fixed.{one, slope, IsDivisor, scaled_of, stage_of, series_of, sine_fixed_of, cosine_fixed_of, per_degree_of};
 
 // 1: 2^30.
 const ONE: u64 = 1073741824;
@@ -11,64 +11,75 @@ const HALF: u64 = 536870912;
 // pi / 180 in steps of 2^-29, the nearest.
 const SLOPE: u64 = 9370165;
 
-// a * b / c.
-pub(crate) fn scaled(a: u64, b: u64, c: u64) -> u64
-    requires { (a ≤ one) × (b ≤ one) × (0 < c) × (c ≤ 128) }
-    ensures value { result ≡ scaled_of a b c }
-    ensures small { result ≤ one }
-{
-    a * b / (c * ONE)
+// What the stages of the sine divide by, the innermost first.
+const SINE: [u64; 5] = [110, 72, 42, 20, 6];
+
+// And those of the cosine.
+const COSINE: [u64; 5] = [90, 56, 30, 12, 2];
+
+// A number up to 1: n / 2^30. As an angle it is in radians.
+#[derive(Clone, Copy, Debug)]
+pub(crate) struct Fixed {
+    pub(crate) n: u64,
+    pub(crate) ghost small: { n ≤ one },
 }
 
-// 1 - u * h / c.
-fn stage(u: u64, h: u64, c: u64) -> u64
-    requires { (u ≤ one) × (h ≤ one) × (0 < c) × (c ≤ 128) }
-    ensures value { result ≡ stage_of u h c }
-    ensures small { result ≤ one }
-{
-    ONE - scaled(u, h, c)
-}
+impl Fixed {
+    // self * b / c.
+    #[tactic(auto, unfolding(crate::specs::Fixed::scaled_of), using(crate::proofs::Around::cut_fixed))]
+    pub(crate) fn scaled(self, b: Fixed, c: u64) -> Fixed
+        requires { IsDivisor c }
+        ensures { result.n ≡ scaled_of self.n b.n c }
+    {
+        Fixed {
+            n: self.n * b.n / (c * ONE),
+        }
+    }
 
-// What the sine of t has of t, which is an angle in radians up to 1.
-fn share(t: u64) -> u64
-    requires { t ≤ one }
-    ensures value { result ≡ share_of t }
-    ensures small { result ≤ one }
-{
-    let u = scaled(t, t, 1);
-    let h5 = stage(u, ONE, 110);
-    let h4 = stage(u, h5, 72);
-    let h3 = stage(u, h4, 42);
-    let h2 = stage(u, h3, 20);
-    stage(u, h2, 6)
-}
+    // 1 - self * h / c.
+    #[tactic(auto, unfolding(crate::specs::Fixed::stage_of))]
+    fn stage(self, h: Fixed, c: u64) -> Fixed
+        requires { IsDivisor c }
+        ensures { result.n ≡ stage_of self.n h.n c }
+    {
+        Fixed {
+            n: ONE - self.scaled(h, c).n,
+        }
+    }
 
-pub(crate) fn sine_fixed(t: u64) -> u64
-    requires { t ≤ one }
-    ensures value { result ≡ sine_fixed_of t }
-    ensures small { result ≤ one }
-{
-    scaled(t, share(t), 1)
-}
+    // The stages at the square of self, a stage for each divisor.
+    fn series(self, divisors: [u64; 5]) -> Fixed
+        requires { All IsDivisor divisors }
+        ensures { result.n ≡ series_of self.n divisors }
+    {
+        let square = self.scaled(self, 1);
+        let mut h = Fixed { n: ONE };
+        for c in divisors {
+            h = square.stage(h, c);
+        }
+        h
+    }
 
-pub(crate) fn cosine_fixed(t: u64) -> u64
-    requires { t ≤ one }
-    ensures value { result ≡ cosine_fixed_of t }
-    ensures small { result ≤ one }
-{
-    let u = scaled(t, t, 1);
-    let h5 = stage(u, ONE, 90);
-    let h4 = stage(u, h5, 56);
-    let h3 = stage(u, h4, 30);
-    let h2 = stage(u, h3, 12);
-    stage(u, h2, 2)
-}
+    #[tactic(auto, unfolding(crate::specs::Fixed::sine_fixed_of))]
+    pub(crate) fn sine(self) -> Fixed
+        ensures { result.n ≡ sine_fixed_of self.n }
+    {
+        self.scaled(self.series(SINE), 1)
+    }
 
-// What the sine of t has of t's degrees, in steps of 2^-29, the nearest: a whole number that an f32 holds.
-pub(crate) fn per_degree(t: u64) -> u64
-    requires { t ≤ one }
-    ensures value { result ≡ per_degree_of t }
-    ensures small { result ≤ slope }
-{
-    (share(t) * SLOPE + HALF) / ONE
+    #[tactic(auto, unfolding(crate::specs::Fixed::cosine_fixed_of))]
+    pub(crate) fn cosine(self) -> Fixed
+        ensures { result.n ≡ cosine_fixed_of self.n }
+    {
+        self.series(COSINE)
+    }
+
+    // What the sine has of the angle's degrees, in steps of 2^-29, the nearest: a whole number that an f32 holds.
+    #[tactic(auto, unfolding(crate::specs::Fixed::per_degree_of), using(crate::proofs::Slope::slope_small))]
+    pub(crate) fn per_degree(self) -> u64
+        ensures value { result ≡ per_degree_of self.n }
+        ensures small { result ≤ slope }
+    {
+        (self.series(SINE).n * SLOPE + HALF) / ONE
+    }
 }

@@ -1,11 +1,11 @@
 // The angle is brought to a grid of 2^-26 degrees and reduced by quarter turns, the series are worked out in fixed point, and the
 // result is rounded once.
 ghost use Rattle.std.specs.Prelude.{◌≡◌, ◌*◌, ◌≤◌, T};
-ghost use Rattle.trig.specs.Degrees.{apart, in_turn, sine_at, cosine_at, within};
+ghost use Rattle.trig.specs.Degrees.{in_turn, sine_at, cosine_at, within};
 ghost use Rattle.trig.specs.Fixed.{one};
 ghost use Rattle.trig.specs.Wave.{degree, steps_of, grid_of, quarters_of, radians_of, rest_of, float_of, rounded_of, slope_of, sin_of, cos_of};
 
-use super::fixed;
+use super::fixed::Fixed;
 
 // The largest angle.
 const TURN: f32 = 360.0;
@@ -40,99 +40,112 @@ const TWO_TO_29: f32 = 536870912.0;
 // What a fixed-point number is divided by.
 const TWO_TO_30: f32 = 1073741824.0;
 
+// An angle from -360 to 360 degrees.
+#[derive(Clone, Copy, Debug)]
+pub(crate) struct Degrees {
+    pub(crate) x: f32,
+    pub(crate) ghost inside: { T (in_turn x) },
+}
+
+// An angle and 360 degrees on the grid, so that no sign is left.
+#[derive(Clone, Copy, Debug)]
+struct Lifted {
+    y: u64,
+    ghost small: { y ≤ 720 * degree },
+}
+
 pub fn in_turn(x: f32) -> bool
     ensures { result ≡ in_turn x }
 {
     (-TURN <= x) & (x <= TURN)
 }
 
-// The size of x on the grid, cut toward zero.
-pub(crate) fn steps(x: f32) -> u64
-    requires { T (in_turn x) }
-    ensures value { result ≡ steps_of x }
-    ensures small { result ≤ 360 * degree }
-{
-    std::num::truncating_f32_to_u64(number::fabsf(x) * STEPS)
-}
-
-// x and 360 degrees on the grid.
-fn grid(x: f32) -> u64
-    requires { T (in_turn x) }
-    ensures value { result ≡ grid_of x }
-    ensures small { result ≤ 720 * degree }
-{
-    if x < 0.0 {
-        return FULL_TURN - steps(x);
-    }
-    FULL_TURN + steps(x)
-}
-
-// How many quarter turns are nearest to y, the lower number at a tie.
-fn quarters(y: u64) -> u64
-    requires { y ≤ 720 * degree }
-    ensures value { result ≡ quarters_of y }
-    ensures small { result ≤ 8 }
-{
-    (y + EIGHTH - 1) / QUARTER
-}
-
-pub(crate) fn difference(a: u64, b: u64) -> u64
-    ensures { result ≡ apart a b }
-{
-    if a < b { b - a } else { a - b }
-}
-
-// An angle of d steps of the grid in radians, in fixed point.
-pub(crate) fn radians(d: u64) -> u64
+// An angle of d steps of the grid in radians.
+#[tactic(auto, unfolding(crate::specs::Wave::radians_of), using(crate::proofs::Quarter::radians_small))]
+pub(crate) fn radians(d: u64) -> Fixed
     requires { d ≤ 45 * degree }
-    ensures value { result ≡ radians_of d }
-    ensures small { result ≤ one }
+    ensures { result.n ≡ radians_of d }
 {
-    d * PI_OVER_180 / TWO_TO_33
-}
-
-// What is left of y when the nearest quarter turns are taken off, in radians.
-fn rest(y: u64) -> u64
-    requires { y ≤ 720 * degree }
-    ensures value { result ≡ rest_of y }
-    ensures small { result ≤ one }
-{
-    radians(difference(y, quarters(y) * QUARTER))
+    Fixed {
+        n: d * PI_OVER_180 / TWO_TO_33,
+    }
 }
 
 // size / 2^30 with the sign: size / 64 steps of 2^-24 and size % 64 of 2^-30 are exact, so that only their sum is rounded.
-fn to_float(minus: bool, size: u64) -> f32
-    requires { size ≤ one }
-    ensures { result ≡ float_of minus size }
+#[tactic(auto, unfolding(crate::specs::Wave::float_of))]
+fn to_float(minus: bool, size: Fixed) -> f32
+    ensures { result ≡ float_of minus size.n }
 {
-    let r = ((size / 64) as f32) / TWO_TO_24 + ((size % 64) as f32) / TWO_TO_30;
+    let r = ((size.n / 64) as f32) / TWO_TO_24 + ((size.n % 64) as f32) / TWO_TO_30;
     if minus { -r } else { r }
 }
 
-// The sine of x degrees and k quarter turns, by the series and rounded.
-fn rounded(x: f32, k: u64) -> f32
-    requires { T (in_turn x) × (k ≤ 1) }
-    ensures { result ≡ rounded_of k x }
-{
-    let y = grid(x);
-    let at = quarters(y);
-    let t = rest(y);
-    let q = at + k;
-    let back = 2 <= q % 4;
-    if q % 2 == 0 {
-        let behind = y < at * QUARTER;
-        to_float(behind != back, fixed::sine_fixed(t))
-    } else {
-        to_float(back, fixed::cosine_fixed(t))
+impl Lifted {
+    // How many quarter turns are nearest, the lower number at a tie.
+    #[tactic(auto, unfolding(crate::specs::Degrees::turns))]
+    fn quarters(self) -> u64
+        ensures value { result ≡ quarters_of self.y }
+        ensures small { result ≤ 8 }
+    {
+        (self.y + EIGHTH - 1) / QUARTER
+    }
+
+    // What is left when the nearest quarter turns are taken off, in radians.
+    fn rest(self) -> Fixed
+        ensures { result.n ≡ rest_of self.y }
+    {
+        radians(self.y.abs_diff(self.quarters() * QUARTER))
     }
 }
 
-// What the sine of x has of x: a whole number of 2^-29, and so exact.
-fn slope(x: f32) -> f32
-    requires { T (in_turn x) }
-    ensures { result ≡ slope_of x }
-{
-    (fixed::per_degree(rest(grid(x))) as f32) / TWO_TO_29
+impl Degrees {
+    // The size of x on the grid, cut toward zero.
+    pub(crate) fn steps(self) -> u64
+        ensures value { result ≡ steps_of self.x }
+        ensures small { result ≤ 360 * degree }
+    {
+        std::num::truncating_f32_to_u64(number::fabsf(self.x) * STEPS)
+    }
+
+    fn lifted(self) -> Lifted
+        ensures { result.y ≡ grid_of self.x }
+    {
+        let steps = self.steps();
+        if self.x < 0.0 {
+            return Lifted {
+                y: FULL_TURN - steps,
+            };
+        }
+        Lifted {
+            y: FULL_TURN + steps,
+        }
+    }
+
+    // The sine of x degrees and k quarter turns, by the series and rounded.
+    fn rounded(self, k: u64) -> f32
+        requires { k ≤ 1 }
+        ensures { result ≡ rounded_of k self.x }
+    {
+        let lifted = self.lifted();
+        let at = lifted.quarters();
+        let t = lifted.rest();
+        let q = at + k;
+        let back = 2 <= q % 4;
+        if q % 2 == 0 {
+            let behind = lifted.y < at * QUARTER;
+            to_float(behind != back, t.sine())
+        } else {
+            to_float(back, t.cosine())
+        }
+    }
+
+    // What the sine of x has of x: a whole number of 2^-29, and so exact.
+    #[tactic(auto, unfolding(crate::specs::Wave::slope_of))]
+    fn slope(self) -> f32
+        ensures { result ≡ slope_of self.x }
+    {
+        (self.lifted().rest().per_degree() as f32) / TWO_TO_29
+    }
 }
 
 // The sine of x degrees, from -360 to 360; NaN elsewhere. Below a degree it is x times its slope there, so that the smallest angles keep all their digits.
@@ -143,10 +156,11 @@ pub fn sin(x: f32) -> f32
     if !in_turn(x) {
         return 0.0 / 0.0;
     }
+    let degrees = Degrees { x };
     if number::fabsf(x) < 1.0 {
-        return x * slope(x);
+        return x * degrees.slope();
     }
-    rounded(x, 0)
+    degrees.rounded(0)
 }
 
 // The cosine of x degrees, from -360 to 360; NaN elsewhere. It is the sine a quarter turn on.
@@ -157,5 +171,5 @@ pub fn cos(x: f32) -> f32
     if !in_turn(x) {
         return 0.0 / 0.0;
     }
-    rounded(x, 1)
+    Degrees { x }.rounded(1)
 }

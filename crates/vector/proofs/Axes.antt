@@ -1,29 +1,27 @@
--- The digits of a mounting's axes are its places, and reading a vector by them turns it; what no mounting's number has; and the table's law of both
--- refusals. Assumes nothing.
-use mathlib.Core.Path.{◌≡◌, refl, ap, sym, subst, ◌∙◌}
-use mathlib.Core.Bool.{Bool, true, false, not, cond}
+-- The digits of a mounting's axes are its places, and reading a vector by them turns it; and the table's law of both refusals. Assumes nothing.
+use mathlib.Core.Path.{◌≡◌, refl, ap, sym, ◌∙◌}
+use mathlib.Core.Bool.{Bool, true, false, not, cond, false≢true}
 use Prim.Native.Nat.{ℕ, ◌+◌, ◌*◌, ◌/◌, ◌%◌, ◌<◌}
 use native.Mathlib.Omega.{arith}
 use mathlib.Core.List.{map}
 use lib.Dec.{ltb}
 use lib.Ieee.{nan, neg}
 use lib.ListN.{get_or}
-use borrow.Author.Tests.{lt-ltb}
 use Rattle.answer.specs.declared.Answer.{Answer}
 use Rattle.answer.specs.declared.Answer.TheVariants.{Refused}
-use Rattle.answer.specs.Answers.{answer_said}
+use Rattle.answer.specs.declared.refusal.Refusal.TheVariants.{Unknown, NotFinite}
 use Rattle.answer.specs.Refusals.{ascends}
 use Rattle.answer.specs.Promises.{Answers}
 use Rattle.answer.proofs.Answering.{fails, passes, all_pass, refuses, gives}
 use Rattle.answer.proofs.Table.{by_the_table}
 use Rattle.answer.proofs.Tests.{one}
+use Rattle.std.specs.Prelude.{Option, Some, None}
 use Rattle.vector.specs.declared.Vector.{Vector}
-use Rattle.vector.specs.Axes.{place_of, signed_axes, places, no_places, axes_of}
+use Rattle.vector.specs.Axes.{place_of, signed_axes, places, axes_of}
 use Rattle.vector.specs.Inner.{signed_of, read_by, Within}
 use Rattle.vector.specs.Mounting.{Signed, Px, Py, Pz, Nx, Ny, Nz, Mounting, mounting_of, read, turn, turn_of}
 use Rattle.vector.specs.Turned.{turn_checks, turned_answer, ExactlyWhen}
 use Rattle.vector.specs.Vectors.{finite_vector}
-use Rattle.vector.proofs.Matched.{Rest, past}
 
 -- ---- digits and places
 
@@ -72,47 +70,48 @@ module _ (m : Mounting) where
       axis : {n : ℕ} (s : Signed) → n ≡ place_of s → get_or (signed_of v) n nan ≡ read neg v.x v.y v.z s
       axis s e = ap (λ (k : ℕ). get_or (signed_of v) k nan) e ∙ signed v s
 
--- ---- a number that is no mounting's
+-- ---- what each return of the turn has to show
 
-pub beyond : (n : ℕ) → Rest 24 n → no_places ≡ axes_of n
-beyond n r = sym (ap (λ (b : Bool). cond b no_places (places (mounting_of n))) (lt-ltb 23 n (past 24 n r)))
+abbrev is_some : Option ℕ → Bool
+is_some None = false
+is_some (Some a) = true
 
-few : (m : Mounting) → places m ≡ no_places → ⊥
-few m e = omega (arith, place m.x, place m.y, place m.z)
+-- no mounting has the number
+beyond : (n : ℕ) → None ≡ axes_of n → ltb 23 n ≡ true
+beyond n e = go (ltb 23 n) (ap is_some e)
+  where
+    go : (b : Bool) → false ≡ is_some (cond b None (Some (places (mounting_of n)))) → b ≡ true
+    go true g = refl
+    go false g = absurd (false≢true g)
 
--- ---- what each return of the turn has to show, where a is what the match gave
+-- a mounting has it, with these places
+pub numbered : (n : ℕ) {a : ℕ} → Some a ≡ axes_of n → (ltb 23 n ≡ false) × (a ≡ places (mounting_of n))
+numbered n {a} e = go (ltb 23 n) refl e
+  where
+    the : Option ℕ → ℕ
+    the None = a
+    the (Some b) = b
 
-module _ (v : Vector) (n : ℕ) {a : ℕ} (e : a ≡ axes_of n) where
+    go : (b : Bool) → ltb 23 n ≡ b → Some a ≡ cond b None (Some (places (mounting_of n))) → (ltb 23 n ≡ false) × (a ≡ places (mounting_of n))
+    go true f g = absurd (false≢true (sym (ap is_some g)))
+    go false f g = (f, ap the g)
+
+module _ (v : Vector) (n : ℕ) where
   abbrev Turns : Answer → Type 0
   Turns r = Answers (turn_checks v n) (turned_answer (turn_of n v)) r
 
-  pub no_mounting : a ≡ no_places → Turns (Refused 4)
-  no_mounting h = go (ltb 23 n) refl (sym e ∙ h)
-    where
-      go : (b : Bool) → ltb 23 n ≡ b → cond b no_places (places (mounting_of n)) ≡ no_places → Turns (Refused 4)
-      go true f g = refuses answer_said Refused (λ k. refl) _ _ refl (sym (fails 4 _ f)) (λ z. omega arith)
-      go false f g = absurd (few (mounting_of n) g)
+  pub no_mounting : None ≡ axes_of n → Turns (Refused Unknown)
+  no_mounting e = refuses _ _ refl Unknown (sym (fails 4 _ (beyond n e)))
 
-  module _ (h : a ≡ no_places → ⊥) where
-    numbered : (ltb 23 n ≡ false) × (a ≡ places (mounting_of n))
-    numbered = go (ltb 23 n) refl e
-      where
-        go : (b : Bool) → ltb 23 n ≡ b → a ≡ cond b no_places (places (mounting_of n)) → (ltb 23 n ≡ false) × (a ≡ places (mounting_of n))
-        go true f g = absurd (h g)
-        go false f g = (f, g)
+  module _ {a : ℕ} (e : Some a ≡ axes_of n) {b : Bool} (f : b ≡ finite_vector v) where
+    pub not_finite : not b ≡ true → Turns (Refused NotFinite)
+    not_finite g = refuses _ _ refl NotFinite (sym (passes 4 _ (numbered n e).0 ∙ fails 5 _ (one f g)))
 
-    pub its_places : Within a
-    its_places = subst Within (sym numbered.1) (within (mounting_of n))
-
-    module _ {b : Bool} (f : b ≡ finite_vector v) where
-      pub not_finite : not b ≡ true → Turns (Refused 5)
-      not_finite g = refuses answer_said Refused (λ k. refl) _ _ refl (sym (passes 4 _ numbered.0 ∙ fails 5 _ (one f g))) (λ z. omega arith)
-
-      pub turns : not b ≡ false → {r : Answer} → r ≡ turned_answer (read_by a v) → Turns r
-      turns g {r} k =
-          let none = passes 4 _ numbered.0 ∙ passes 5 _ (one f g) ∙ all_pass in
-          let w = ap (λ (n : ℕ). read_by n v) numbered.1 ∙ reads (mounting_of n) v in
-          gives answer_said Refused (λ k. refl) _ _ refl (sym none) refl (k ∙ ap turned_answer w)
+    pub turns : not b ≡ false → {r : Answer} → r ≡ turned_answer (read_by a v) → Turns r
+    turns g {r} k =
+        let (few, its) = numbered n e in
+        let w = ap (λ (n : ℕ). read_by n v) its ∙ reads (mounting_of n) v in
+        gives _ _ refl (sym (passes 4 _ few ∙ passes 5 _ (one f g) ∙ all_pass)) (k ∙ ap turned_answer w)
 
 -- ---- the refusals
 

@@ -8,7 +8,9 @@ use lib.Count.{count_leading_zeros}
 use lib.IntN.{ℤ, pos, negsuc}
 use lib.ListN.{get_or}
 use lib.Ieee.{Float, nan, inf, fin, of_bits, to_bits, eq, lt, add, sub, mul, div, neg, sum, round, units, odd}
+use Rattle.std.specs.Prelude.{Option, Some, None}
 use Rattle.answer.specs.declared.Answer.TheVariants.{Refused}
+use Rattle.answer.specs.declared.refusal.Refusal.TheVariants.{NotFinite}
 use Rattle.answer.specs.Refusals.{refusal_of}
 use Rattle.answer.specs.Promises.{Answers}
 use Rattle.number.specs.Same.{fabsf_of}
@@ -160,18 +162,22 @@ pub of_to_array : (half ∷ two ∷ one ∷ [] ≡ to_array_of one_two_half → 
 unfolding to_bits
 of_to_array = (λ h. apart (in_place 0) h refl, λ h. apart (in_place 1) h refl)
 
+abbrev axes_in : Option ℕ → ℕ
+axes_in None = 0
+axes_in (Some n) = n
+
 -- of 11, +Y+Z+X, the number of 17, its inverse; of 3, +X+Z-Y, the sign dropped; of 24 the first mounting's
-pub of_axes_of : (2049 ≡ axes_of 11 → ⊥) × (65 ≡ axes_of 3 → ⊥) × (34 ≡ axes_of 24 → ⊥)
+pub of_axes_of : (Some 2049 ≡ axes_of 11 → ⊥) × (Some 65 ≡ axes_of 3 → ⊥) × (Some 34 ≡ axes_of 24 → ⊥)
 unfolding mounting_of
-of_axes_of = (λ h. apart (λ (n : ℕ). n) h refl, λ h. apart (λ (n : ℕ). n) h refl, λ h. apart (λ (n : ℕ). n) h refl)
+of_axes_of = (λ h. apart axes_in h refl, λ h. apart axes_in h refl, λ h. apart axes_in h refl)
 
 -- 11 is +Y+Z+X: what 17, its inverse, gives; the vector itself; a refusal; and 24 turned. The crate remap's `remap` has the same promise.
 pub of_turned
     : (Answers (turn_checks one_two_half 11) (turned_answer (turn_of 11 one_two_half)) (turned_answer (turn_of 17 one_two_half)) → ⊥)
     × (Answers (turn_checks one_two_half 11) (turned_answer (turn_of 11 one_two_half)) (turned_answer one_two_half) → ⊥)
-    × (Answers (turn_checks one_two_half 11) (turned_answer (turn_of 11 one_two_half)) (Refused 5) → ⊥)
+    × (Answers (turn_checks one_two_half 11) (turned_answer (turn_of 11 one_two_half)) (Refused NotFinite) → ⊥)
     × (Answers (turn_checks one_two_half 24) (turned_answer (turn_of 24 one_two_half)) (turned_answer one_two_half) → ⊥)
-    × (Answers (turn_checks one_two_half 24) (turned_answer (turn_of 24 one_two_half)) (Refused 5) → ⊥)
+    × (Answers (turn_checks one_two_half 24) (turned_answer (turn_of 24 one_two_half)) (Refused NotFinite) → ⊥)
     × (Answers (turn_checks one_two_half 11) (turned_answer (turn_of 11 one_two_half)) (turned_answer (vector nought nought nought)) → ⊥)
 unfolding refusal_of mounting_of finite_vector
 of_turned = (

@@ -1,4 +1,5 @@
 pub mod Vectors
+pub mod Equal
 pub mod Mounting
 pub mod Axes
 pub mod Determinant

@@ -1,5 +1,5 @@
 -- What each method of a vector gives, in the operation order of the Rust's math/vector.rs.
-use Rattle.std.specs.Prelude.{Bool, cond, ◌&&◌, ◌||◌, List, [], ◌∷◌, get_or, T, Float}
+use Rattle.std.specs.Prelude.{◌≡◌, refl, Bool, cond, ◌&&◌, ◌||◌, List, [], ◌∷◌, get_or, T, Float}
 use Rattle.std.specs.Float.{binary32, nan}
 use Rattle.std.specs.Float.Ieee.{eq, lt, neg, fits}
 use Rattle.std.specs.Float.Ieee.Scale.{finite}
@@ -57,6 +57,15 @@ norm_squared_of v = sum_of (hadamard_of v v)
 
 unfoldable pub norm_of : Vector → Float
 norm_of v = sqrt_of (norm_squared_of v)
+
+-- which is what both are, said without unfolding
+pub is_norm_squared : (v : Vector) → norm_squared_of v ≡ sum_of (hadamard_of v v)
+unfolding norm_squared_of
+is_norm_squared v = refl
+
+pub is_norm : (v : Vector) → norm_of v ≡ sqrt_of (norm_squared_of v)
+unfolding norm_of
+is_norm v = refl
 
 abbrev pub add_of : Vector → Vector → Vector
 add_of v w = vector (v.x ⊕ w.x) (v.y ⊕ w.y) (v.z ⊕ w.z)

@@ -1,15 +1,18 @@
-// A vector of three f32: the Rust's math/vector.rs, its operators as named methods.
+// A vector of three f32: the Rust's math/vector.rs. Its operators are named methods by value that give back a vector, no operator traits: the
+// project asks for that form.
 #![tactic(auto)]
 
+pub mod components; // components.rt: what a quaternion has too
 pub mod turned; // turned.rt: a vector turned by a mounting, which alone refuses
 
 ghost use Rattle.std.specs.Prelude.{◌≡◌};
-ghost use Rattle.vector.specs.Vectors.{vector, ones_vector, finite_vector, eq_of, is_zero_of, exceeds_of, sum_of, hadamard_of, dot_of, cross_of};
-ghost use Rattle.vector.specs.Vectors.{norm_squared_of, norm_of, normalize_of, add_of, sub_of, neg_of, mul_of, from_array_of, to_array_of};
+ghost use Rattle.vector.specs.Vectors.{vector, ones_vector, finite_vector, is_zero_of, exceeds_of, sum_of, hadamard_of, dot_of, cross_of};
+ghost use Rattle.vector.specs.Vectors.{norm_squared_of, norm_of, is_norm_squared, is_norm, normalize_of, add_of, sub_of, neg_of, mul_of, from_array_of, to_array_of};
 
+pub use components::Components;
 pub use turned::axes_of;
 
-#[derive(Clone, Copy)]
+#[derive(Clone, Copy, Debug, PartialEq)]
 pub struct Vector {
     pub x: f32,
     pub y: f32,
@@ -43,17 +46,11 @@ impl Vector {
     }
 
     // Whether no component is a NaN or an infinity.
+    #[tactic(auto, unfolding(crate::specs::Vectors::finite_vector))]
     pub fn is_finite(self) -> bool
         ensures { result ≡ finite_vector self }
     {
         number::is_finite(self.x) & number::is_finite(self.y) & number::is_finite(self.z)
-    }
-
-    // The Rust's `==`: a NaN equals nothing, and the zeros are equal.
-    pub fn eq(self, rhs: Vector) -> bool
-        ensures { result ≡ eq_of self rhs }
-    {
-        (self.x == rhs.x) & (self.y == rhs.y) & (self.z == rhs.z)
     }
 
     pub fn is_zero(self) -> bool
@@ -63,6 +60,7 @@ impl Vector {
     }
 
     // Whether some component is larger in size than the limit.
+    #[tactic(auto, unfolding(crate::specs::Vectors::exceeds_of))]
     pub fn exceeds(self, limit: f32) -> bool
         ensures { result ≡ exceeds_of self limit }
     {
@@ -71,22 +69,7 @@ impl Vector {
             | number::is_larger(self.z, limit)
     }
 
-    pub fn sum(self) -> f32
-        ensures { result ≡ sum_of self }
-    {
-        self.x + self.y + self.z
-    }
-
-    pub fn hadamard(self, rhs: Vector) -> Vector
-        ensures { result ≡ hadamard_of self rhs }
-    {
-        Vector {
-            x: self.x * rhs.x,
-            y: self.y * rhs.y,
-            z: self.z * rhs.z,
-        }
-    }
-
+    #[tactic(auto, unfolding(crate::specs::Vectors::dot_of))]
     pub fn dot(self, rhs: Vector) -> f32
         ensures { result ≡ dot_of self rhs }
     {
@@ -103,19 +86,8 @@ impl Vector {
         }
     }
 
-    pub fn norm_squared(self) -> f32
-        ensures { result ≡ norm_squared_of self }
-    {
-        self.hadamard(self).sum()
-    }
-
-    pub fn norm(self) -> f32
-        ensures { result ≡ norm_of self }
-    {
-        root::sqrtf(self.norm_squared())
-    }
-
     // Times the reciprocal of the norm; a vector whose norm is zero gives zero.
+    #[tactic(auto, unfolding(crate::specs::Vectors::normalize_of))]
     pub fn normalize(self) -> Vector
         ensures { result ≡ normalize_of self }
     {
@@ -165,20 +137,47 @@ impl Vector {
             z: self.z * rhs,
         }
     }
+}
 
-    pub fn from_array(xyz: [f32; 3]) -> Vector
-        ensures { result ≡ from_array_of xyz }
-    {
-        Vector {
-            x: xyz[0],
-            y: xyz[1],
-            z: xyz[2],
-        }
+impl Components for Vector {
+    ghost summed = { sum_of };
+
+    ghost multiplied = { hadamard_of };
+
+    ghost squared = { norm_squared_of };
+
+    ghost length = { norm_of };
+
+    ghost is_squared = { is_norm_squared };
+
+    ghost is_length = { is_norm };
+
+    fn sum(self) -> f32 {
+        self.x + self.y + self.z
     }
 
-    pub fn to_array(self) -> [f32; 3]
-        ensures { result ≡ to_array_of self }
-    {
-        [self.x, self.y, self.z]
+    fn hadamard(self, rhs: Vector) -> Vector {
+        Vector {
+            x: self.x * rhs.x,
+            y: self.y * rhs.y,
+            z: self.z * rhs.z,
+        }
+    }
+}
+
+impl From<[f32; 3]> for Vector {
+    ghost from_gives = { λ a v. v ≡ from_array_of a };
+
+    fn from(xyz: [f32; 3]) -> Vector {
+        let [x, y, z] = xyz;
+        Vector { x, y, z }
+    }
+}
+
+impl From<Vector> for [f32; 3] {
+    ghost from_gives = { λ v a. a ≡ to_array_of v };
+
+    fn from(v: Vector) -> [f32; 3] {
+        [v.x, v.y, v.z]
     }
 }

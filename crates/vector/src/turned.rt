@@ -1,4 +1,5 @@
-// A vector turned by a mounting, by number, in the order of `RemapAlignment::ALL`.
+// A vector turned by a mounting, by number, in the order of `RemapAlignment::ALL`. It is a number, and its axes are a word of two bytes,
+// since one from a record may be any number, and a turn's size in flash rests on a table of such words.
 ghost use Rattle.std.specs.Prelude.{◌≡◌, ◌<◌, ◌/◌, ◌%◌};
 ghost use Rattle.answer.specs.Promises.{Answers};
 ghost use Rattle.vector.specs.Axes.{axes_of};
@@ -8,43 +9,40 @@ ghost use Rattle.vector.specs.Turned.{turn_checks, turned_answer};
 ghost use Rattle.vector.specs.Vectors.{finite_vector};
 
 use super::Vector;
-use answer::Answer;
+use answer::{Answer, Refusal};
 
-// What is read of no mounting.
-const NONE: u16 = 0xffff;
-
-// What a mounting reads for x, y and z, five bits each: 0, 1 and 2 are the sensor's axes, 3, 4 and 5 their negatives; all bits for a
-// number that is no mounting's. The compiler makes a table of the match. Three bits would do; of five it takes x by a shift alone.
+// What a mounting reads for x, y and z, five bits each: 0, 1 and 2 are the sensor's axes, 3, 4 and 5 their negatives; nothing for a number
+// that is no mounting's. The compiler makes a table of the match. Three bits would do; of five it takes x by a shift alone.
 #[tactic(auto, unfolding(crate::specs::Mounting::mounting_of))]
-pub fn axes_of(mounting: u8) -> u16
+pub fn axes_of(mounting: u8) -> Option<u16>
     ensures { result ≡ axes_of mounting }
 {
     match mounting {
-        0 => 0b00000_00001_00010,
-        1 => 0b00000_00101_00001,
-        2 => 0b00000_00100_00101,
-        3 => 0b00000_00010_00100,
-        4 => 0b00011_00001_00101,
-        5 => 0b00011_00010_00001,
-        6 => 0b00011_00100_00010,
-        7 => 0b00011_00101_00100,
-        8 => 0b00001_00011_00010,
-        9 => 0b00001_00101_00011,
-        10 => 0b00001_00000_00101,
-        11 => 0b00001_00010_00000,
-        12 => 0b00100_00000_00010,
-        13 => 0b00100_00101_00000,
-        14 => 0b00100_00011_00101,
-        15 => 0b00100_00010_00011,
-        16 => 0b00010_00001_00011,
-        17 => 0b00010_00000_00001,
-        18 => 0b00010_00100_00000,
-        19 => 0b00010_00011_00100,
-        20 => 0b00101_00001_00000,
-        21 => 0b00101_00011_00001,
-        22 => 0b00101_00100_00011,
-        23 => 0b00101_00000_00100,
-        _ => NONE,
+        0 => Some(0b00000_00001_00010),
+        1 => Some(0b00000_00101_00001),
+        2 => Some(0b00000_00100_00101),
+        3 => Some(0b00000_00010_00100),
+        4 => Some(0b00011_00001_00101),
+        5 => Some(0b00011_00010_00001),
+        6 => Some(0b00011_00100_00010),
+        7 => Some(0b00011_00101_00100),
+        8 => Some(0b00001_00011_00010),
+        9 => Some(0b00001_00101_00011),
+        10 => Some(0b00001_00000_00101),
+        11 => Some(0b00001_00010_00000),
+        12 => Some(0b00100_00000_00010),
+        13 => Some(0b00100_00101_00000),
+        14 => Some(0b00100_00011_00101),
+        15 => Some(0b00100_00010_00011),
+        16 => Some(0b00010_00001_00011),
+        17 => Some(0b00010_00000_00001),
+        18 => Some(0b00010_00100_00000),
+        19 => Some(0b00010_00011_00100),
+        20 => Some(0b00101_00001_00000),
+        21 => Some(0b00101_00011_00001),
+        22 => Some(0b00101_00100_00011),
+        23 => Some(0b00101_00000_00100),
+        _ => None,
     }
 }
 
@@ -73,12 +71,11 @@ impl Vector {
     pub fn turned(self, mounting: u8) -> Answer
         ensures { Answers (turn_checks self mounting) (turned_answer (turn_of mounting self)) result }
     {
-        let axes = axes_of(mounting);
-        if axes == NONE {
-            return Answer::Refused(4);
-        }
+        let Some(axes) = axes_of(mounting) else {
+            return Answer::Refused(Refusal::Unknown);
+        };
         if !all_finite(self) {
-            return Answer::Refused(5);
+            return Answer::Refused(Refusal::NotFinite);
         }
         self.read_by(axes)
     }

@@ -3,30 +3,81 @@
 #![tactic(auto)]
 
 ghost use Rattle.std.specs.Prelude.{◌≡◌, ◌⊎◌, ◌≤◌, length, not, eqb};
-ghost use Rattle.verdict.specs.Verdict.{no_verdict, next_of, digit_of, byte_of, verdict_of, is_refused};
+ghost use Rattle.answer.specs.Rows.{number_in};
+ghost use Rattle.verdict.specs.Verdict.{no_verdict, next_of, ended_of, digit_of, byte_of, verdict_of, is_refused};
 
+use answer::Refusal;
 use std::io::{Cursor, Error, ErrorKind, Write};
 
-// The descriptor of standard error.
+// The descriptor of standard error: what is said there is written to it, so that no caller has to lend a runtime.
 const STDERR: i32 = 2;
 
 // As the shell has it of the system's signal: 128 and the signal's number, 13.
 const READER_GONE: u8 = 141;
 
-// The lines that have ended; the first that is a refusal, and its number, both 0 where there is none; whether the number has ended.
-#[derive(Clone, Copy)]
+// The first line that is a refusal.
+#[derive(Clone, Copy, Debug, PartialEq, Eq)]
+pub enum Found {
+    Nothing,
+    // the line, and its number as far as it was read: 0 before the first digit
+    Reading(u64, u16),
+    // the line and its number
+    Named(u64, u16),
+}
+
+impl Found {
+    // What is no digit ends the number, where one is known.
+    fn ended(self) -> Found
+        ensures { result ≡ ended_of self }
+    {
+        match self {
+            Found::Reading(line, number) if number != 0 => Found::Named(line, number),
+            _ => self,
+        }
+    }
+
+    // A byte once the refused line was found: the next digit of its number, of which three are read, or what ends it.
+    fn digit(self, byte: u8) -> Found
+        ensures { result ≡ digit_of self byte }
+    {
+        match self {
+            Found::Reading(line, number) if byte.is_ascii_digit() => {
+                if number > 99 {
+                    return self;
+                }
+                Found::Reading(line, number * 10 + u16::from(byte - b'0'))
+            }
+            _ => self.ended(),
+        }
+    }
+}
+
+// How many lines have ended, and the first that is a refusal.
+#[derive(Clone, Copy, Debug, PartialEq, Eq)]
 pub struct Verdict {
     pub lines: u64,
-    pub line: u64,
-    pub number: u16,
-    pub ended: bool,
+    pub found: Found,
 }
 
 // One more, up to the largest number.
+#[tactic(auto, unfolding(crate::specs::Verdict::next_of))]
 fn next(n: u64) -> u64
     ensures { result ≡ next_of n }
 {
-    if n < 18446744073709551615 { n + 1 } else { n }
+    n.saturating_add(1)
+}
+
+// A line as `replay: refused 8 in record 3`.
+fn name(program: &[u8], unit: &[u8], line: u64, number: u64) {
+    let fd = STDERR;
+    io::write_all(fd, program);
+    io::write_all(fd, b": refused ");
+    io::print_decimal(fd, number);
+    io::write_all(fd, b" in ");
+    io::write_all(fd, unit);
+    io::write_all(fd, b" ");
+    io::print_decimal(fd, line);
+    io::write_all(fd, b"\n");
 }
 
 impl Verdict {
@@ -35,141 +86,96 @@ impl Verdict {
     {
         Verdict {
             lines: 0,
-            line: 0,
-            number: 0,
-            ended: false,
-        }
-    }
-
-    // A byte once the refused line was found: the next digit of its number, of which three are read, or what ends it.
-    fn digit(self, byte: u8) -> Verdict
-        ensures { result ≡ digit_of self byte }
-    {
-        if self.ended {
-            return self;
-        }
-        if (byte < b'0') | (byte > b'9') {
-            return Verdict {
-                lines: self.lines,
-                line: self.line,
-                number: self.number,
-                ended: self.number != 0,
-            };
-        }
-        if self.number > 99 {
-            return self;
-        }
-        Verdict {
-            lines: self.lines,
-            line: self.line,
-            number: self.number * 10 + (byte - b'0') as u16,
-            ended: false,
+            found: Found::Nothing,
         }
     }
 
     // An `r` stands in a refusal's line alone, before its number.
+    #[tactic(auto, unfolding(crate::specs::Verdict::byte_of))]
     fn byte(self, byte: u8) -> Verdict
         ensures { result ≡ byte_of self byte }
     {
-        if byte == b'\n' {
-            return Verdict {
+        match (byte, self.found) {
+            (b'\n', found) => Verdict {
                 lines: next(self.lines),
-                line: self.line,
-                number: self.number,
-                ended: self.number != 0,
-            };
+                found: found.ended(),
+            },
+            (b'r', Found::Nothing) => Verdict {
+                found: Found::Reading(next(self.lines), 0),
+                ..self
+            },
+            (_, found) => Verdict {
+                found: found.digit(byte),
+                ..self
+            },
         }
-        if self.line != 0 {
-            return self.digit(byte);
-        }
-        if byte == b'r' {
-            return Verdict {
-                lines: self.lines,
-                line: next(self.lines),
-                number: self.number,
-                ended: self.ended,
-            };
-        }
-        self
     }
 
     // After more of what is printed.
+    #[tactic(auto, unfolding(crate::specs::Verdict::verdict_of))]
     pub fn over(self, text: &[u8]) -> Verdict
         ensures { result ≡ verdict_of self text.now }
     {
         let mut verdict = self;
-        let mut i = 0;
-        while i < text.len() {
-            verdict = verdict.byte(text[i]);
-            i += 1;
+        for &byte in text {
+            verdict = verdict.byte(byte);
         }
         verdict
-    }
-
-    // A line as `replay: refused 8 in record 3`.
-    fn name(self, program: &[u8], unit: &[u8]) {
-        let fd = STDERR;
-        io::write_all(fd, program);
-        io::write_all(fd, b": refused ");
-        io::print_decimal(fd, self.number as u64);
-        io::write_all(fd, b" in ");
-        io::write_all(fd, unit);
-        io::write_all(fd, b" ");
-        io::print_decimal(fd, self.line);
-        io::write_all(fd, b"\n");
     }
 
     // Names the refusal, if there is one; whether there is one.
     pub fn tell(self, program: &[u8], unit: &[u8]) -> bool
         ensures { result ≡ is_refused self }
     {
-        let refused = self.line != 0;
-        if refused {
-            self.name(program, unit);
+        match self.found {
+            Found::Nothing => false,
+            Found::Reading(line, number) | Found::Named(line, number) => {
+                name(program, unit, line, u64::from(number));
+                true
+            }
         }
-        refused
     }
 }
 
 // Names the refusal that ended a log, in its header or in the record behind so many, if there is one; whether there is one.
-pub fn tell_log(program: &[u8], begun: bool, number: u8, records: u64) -> bool
-    ensures { result ≡ not (eqb number 0) }
+// A log that has begun may have no record yet, so the two are no `Option`.
+pub fn tell_log(program: &[u8], begun: bool, outcome: Result<(), Refusal>, records: u64) -> bool
+    ensures { result ≡ not (eqb (number_in outcome) 0) }
 {
-    let refused = number != 0;
-    if refused {
-        if begun {
-            let verdict = Verdict {
-                lines: records,
-                line: next(records),
-                number: number as u16,
-                ended: true,
-            };
-            verdict.name(program, b"record");
-        } else {
-            let fd = STDERR;
-            io::write_all(fd, program);
-            io::write_all(fd, b": refused ");
-            io::print_decimal(fd, number as u64);
-            io::write_all(fd, b" in the header\n");
-        }
+    let Err(refusal) = outcome else {
+        return false;
+    };
+    let number = u64::from(refusal.number());
+    if begun {
+        name(program, b"record", next(records), number);
+    } else {
+        let fd = STDERR;
+        io::write_all(fd, program);
+        io::write_all(fd, b": refused ");
+        io::print_decimal(fd, number);
+        io::write_all(fd, b" in the header\n");
     }
-    refused
+    true
 }
 
-// How many bytes are the system's words in what std prints of an error, which has the error's number in brackets behind them.
+// In what std prints of an error its number stands in brackets, behind the system's words.
+const BRACKET: &[u8] = b" (os error ";
+
+// How many bytes the words have; behind all that was printed there are zeros.
 fn words(text: &[u8]) -> usize
     ensures { result ≤ length text.now }
 {
-    for i in 0..text.len() {
-        if (text[i] == 0) || text[i..].starts_with(b" (os error ") {
-            return i;
-        }
-    }
-    text.len()
+    let n = text
+        .iter()
+        .position(|&byte| byte == 0)
+        .unwrap_or(text.len());
+    let mut parts = text[..n].windows(BRACKET.len());
+    parts.position(|part| part == BRACKET).unwrap_or(n)
 }
 
 // Names a read or a write that failed, as `replay: standard input: Is a directory`, and gives the status that the program ends with: 0,
 // since the line says all. Where the reader of the output has gone nothing is said, and the status is that of a program which that ends.
+// It is the number that an `ExitCode` is made of.
 pub fn tell_failed(what: &[u8], error: Error) -> u8
     ensures { (result ≡ 0) ⊎ (result ≡ 141) }
 {

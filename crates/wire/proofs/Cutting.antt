@@ -17,5 +17,6 @@ module _ {S O : Type 0} (next : S → ℕ → S) (out : S → ℕ → List O) wh
   cut end s [] = refl
   cut end s (x ∷ parts) =
       ap (λ (q : List O). gives next out s x ++ q) (cut end (after next out s x) parts)
-      ∙ sym (append_assoc (gives next out s x) (gives next out (after next out s x) (joined parts)) (end (after next out (after next out s x) (joined parts))))
+      ∙ sym
+      (append_assoc (gives next out s x) (gives next out (after next out s x) (joined parts)) (end (after next out (after next out s x) (joined parts))))
       ∙ simp (gives_append s x (joined parts), after_append s x (joined parts))

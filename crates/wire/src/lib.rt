@@ -2,105 +2,88 @@
 //
 // Every function is total: a byte past the end reads as 0, and a store past the end changes nothing.
 // Any pattern becomes a float, every NaN's the one NaN; a reader that refuses by the bits asks `is_finite_bits`.
+// Each width is a function, since `from_le_bytes` and `to_le_bytes` are methods of each; that they take a slice and a place is all they share.
 #![tactic(auto)]
 
-ghost use Rattle.std.specs.Prelude.{◌≡◌, ◌+◌, ◌<◌, get_or, set};
-ghost use Rattle.std.specs.Float.{binary32};
-ghost use Rattle.std.specs.Float.Ieee.{nan_bits};
+ghost use Rattle.std.specs.Prelude.{◌≡◌, ◌+◌, get_or, set};
 ghost use Rattle.wire.specs.Wire.{u16_at, bits_at, put_u16, put_bits, finite_bits, float_of, bits_of};
 
-// The byte k places after `at`; their sum is made only where it is a place.
+// The byte k places after `at`. Where their sum is no number of 64 bits it is no place either.
 fn byte_at(s: &[u8], at: usize, k: usize) -> u8
     ensures { result ≡ get_or s.now (at + k) 0 }
 {
-    if at < s.len() {
-        if k < s.len() - at {
-            return s[at + k];
-        }
-    }
-    0
+    s.get(at.saturating_add(k)).copied().unwrap_or(0)
 }
 
 // Stores b at the place that `byte_at` reads.
 fn put_byte(s: &mut [u8], at: usize, k: usize, b: u8)
     ensures { s.new ≡ set s.old (at + k) b }
 {
-    if at < s.len() {
-        if k < s.len() - at {
-            s[at + k] = b;
-            return;
-        }
+    let i = at.saturating_add(k);
+    if i < s.len() {
+        s[i] = b;
     }
-}
-
-// That byte as a number that has room for three more.
-fn wide(s: &[u8], at: usize, k: usize) -> u32
-    ensures { (result ≡ get_or s.now (at + k) 0) × (result < 256) }
-{
-    byte_at(s, at, k) as u32
 }
 
 // The byte at `at`.
 pub fn u8_at(s: &[u8], at: usize) -> u8
     ensures { result ≡ get_or s.now at 0 }
 {
-    byte_at(s, at, 0)
+    s.get(at).copied().unwrap_or(0)
 }
 
 // The 16-bit number at `at`.
 pub fn u16_at(s: &[u8], at: usize) -> u16
     ensures { result ≡ u16_at s.now at }
 {
-    (wide(s, at, 0) + 256 * wide(s, at, 1)) as u16
+    u16::from_le_bytes([byte_at(s, at, 0), byte_at(s, at, 1)])
 }
 
 // The bit pattern at `at`.
 pub fn bits_at(s: &[u8], at: usize) -> u32
     ensures { result ≡ bits_at s.now at }
 {
-    wide(s, at, 0) + 256 * wide(s, at, 1) + 65536 * wide(s, at, 2) + 16777216 * wide(s, at, 3)
+    u32::from_le_bytes([
+        byte_at(s, at, 0),
+        byte_at(s, at, 1),
+        byte_at(s, at, 2),
+        byte_at(s, at, 3),
+    ])
 }
 
 // Writes the 16-bit number n at `at`.
 pub fn put_u16(s: &mut [u8], at: usize, n: u16)
     ensures { s.new ≡ put_u16 s.old at n }
 {
-    put_byte(s, at, 0, (n % 256) as u8);
-    put_byte(s, at, 1, (n / 256) as u8);
+    let [low, high] = n.to_le_bytes();
+    put_byte(s, at, 0, low);
+    put_byte(s, at, 1, high);
 }
 
 // Writes the pattern n at `at`.
 pub fn put_bits(s: &mut [u8], at: usize, n: u32)
     ensures { s.new ≡ put_bits s.old at n }
 {
-    put_byte(s, at, 0, (n % 256) as u8);
-    put_byte(s, at, 1, (n / 256 % 256) as u8);
-    put_byte(s, at, 2, (n / 65536 % 256) as u8);
-    put_byte(s, at, 3, (n / 16777216) as u8);
+    let [a, b, c, d] = n.to_le_bytes();
+    put_byte(s, at, 0, a);
+    put_byte(s, at, 1, b);
+    put_byte(s, at, 2, c);
+    put_byte(s, at, 3, d);
 }
 
 // Whether a pattern is a finite number's: its exponent field is not all ones.
+#[tactic(auto, unfolding(crate::specs::Wire::finite_bits))]
 pub fn is_finite_bits(n: u32) -> bool
     ensures { result ≡ finite_bits n }
 {
     n % 0x8000_0000 < 0x7F80_0000
 }
 
-// Whether a pattern is a NaN's: without the sign's bit it is above an infinity's.
-fn is_nan_bits(n: u32) -> bool
-    ensures { result ≡ nan_bits binary32 n }
-{
-    n % 0x8000_0000 > 0x7F80_0000
-}
-
-// The float of a pattern; `f32::from_bits` is not defined at a NaN's, so that one is made.
+// The float of a pattern.
 pub fn float_of(n: u32) -> f32
     ensures { result ≡ float_of n }
 {
-    if is_nan_bits(n) {
-        return 0.0 / 0.0;
-    }
-    f32::from_bits(n)
+    std::num::f32_from_bits_with_nan(n)
 }
 
 // The float whose pattern stands at `at`.
@@ -110,12 +93,9 @@ pub fn float_at(s: &[u8], at: usize) -> f32
     float_of(bits_at(s, at))
 }
 
-// The pattern of a float; `f32::to_bits` is not defined at a NaN, and one pattern stands for every NaN.
+// The pattern of a float; one stands for every NaN.
 pub fn bits_of(x: f32) -> u32
     ensures { result ≡ bits_of x }
 {
-    if x != x {
-        return 0x7FC0_0000;
-    }
-    f32::to_bits(x)
+    std::num::f32_to_bits_with_nan(x)
 }

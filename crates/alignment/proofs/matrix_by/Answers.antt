@@ -4,4 +4,4 @@ use Rattle.alignment.proofs.matrix_by.Goals as goal
 
 pub returns : goal.returns
 unfolding of_bits of_int round units odd neg
-returns c = c.from_rows.ensures
+returns c = c.from.ensures

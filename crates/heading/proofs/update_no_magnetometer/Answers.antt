@@ -1,27 +1,29 @@
--- `heading::update_no_magnetometer` meets its contract: by the numbers of its halves.
+-- `heading::update_no_magnetometer` meets its contract: by what its halves gave.
+use mathlib.Core.Path.{◌≡◌, sym, subst}
 use Rattle.answer.proofs.Tests.{untrue, still}
+use Rattle.answer.specs.declared.change.Reading.{Reading}
+use Rattle.ahrs.specs.declared.Ahrs.{Ahrs}
+use Rattle.heading.specs.Calls.{UpdatesUnaided}
 use Rattle.heading.proofs.Unaided.{unaided_refused, startup_over, second_refused, north_set}
 use Rattle.heading.proofs.update_no_magnetometer.Goals as goal
 
-pub returns-then-number-ne0 : goal.returns-then-number-ne0
-returns-then-number-ne0 c =
-    let given = c.args in
-    unaided_refused given.state given.gyroscope given.accelerometer c.update-reading.ensures c.number.ensures c.if-number-ne0.true
+pub returns-then-is_err : goal.returns-then-is_err
+returns-then-is_err c = unaided_refused _ _ _ c.update-reading.ensures _ c.check.ensures c.is_err.ensures.value c.if-is_err.true
 
-pub returns-then-not-next : goal.returns-then-not-next
-returns-then-not-next c =
-    let given = c.args in
-    startup_over given.state given.gyroscope given.accelerometer c.update-reading.ensures c.number.ensures c.if-number-ne0.false
-    (untrue _ c.if-not-next.true)
+pub returns-then-not-reading : goal.returns-then-not-reading
+returns-then-not-reading c =
+    startup_over _ _ _ c.update-reading.ensures _ c.check.ensures c.is_err.ensures.value c.if-is_err.false (untrue _ c.if-not-reading.true)
 
-pub returns-then-zeroed-ne0 : goal.returns-then-zeroed-ne0
-returns-then-zeroed-ne0 c =
-    let given = c.args in
-    second_refused given.state given.gyroscope given.accelerometer c.update-reading.ensures c.number.ensures c.if-number-ne0.false
-    (still _ c.if-not-next.false) c.set_heading-zeroed.ensures c.if-zeroed-ne0.true
+pub returns-in-Err : goal.returns-in-Err
+returns-in-Err c =
+    let a = c.args in
+    subst
+    (λ (r : Reading Ahrs). UpdatesUnaided a.state a.gyroscope a.accelerometer r)
+    (sym c.refused.ensures)
+    (second_refused _ _ _ c.update-reading.ensures _ c.check.ensures c.is_err.ensures.value c.if-is_err.false (still _ c.if-not-reading.false) _
+    c.set_heading-zeroed.ensures c.in-Err.is)
 
 pub returns : goal.returns
 returns c =
-    let given = c.args in
-    north_set given.state given.gyroscope given.accelerometer c.update-reading.ensures c.number.ensures c.if-number-ne0.false
-    (still _ c.if-not-next.false) c.set_heading-zeroed.ensures c.if-zeroed-ne0.false
+    north_set _ _ _ c.update-reading.ensures _ c.check.ensures c.is_err.ensures.value c.if-is_err.false (still _ c.if-not-reading.false) _
+    c.set_heading-zeroed.ensures c.in_default.is

@@ -8,17 +8,17 @@ use Rattle.lines.proofs.feed.Goals as goal
 pub returns-then-part-out : goal.returns-then-part-out
 returns-then-part-out c = let a = c.args in refused _ _ _ _ _ 0 (no_room a.part.now a.out.now c.if-part-out.true)
 
-pub loop-i-init : goal.loop-i-init
-loop-i-init c = feed_none _ _ _
+pub loop-byte-init : goal.loop-byte-init
+loop-byte-init c = feed_none _ _ _
 
 pub take_byte-fed-requires : goal.take_byte-fed-requires
-take_byte-fed-requires c = let f = c.loop-i.invariant in omega (arith, f.room, f.long, c.if-part-out.false)
+take_byte-fed-requires c = let f = c.loop-byte.invariant in omega (arith, f.room, f.long, c.if-part-out.false)
 
-pub loop-i-preserved : goal.loop-i-preserved
-loop-i-preserved c =
-    feed_next _ _ _ _ _ _ c.loop-i.invariant _ _ c.loop-i-test.true c.take_byte-fed.auto.out c.take_byte-fed.ensures
+pub loop-byte-preserved : goal.loop-byte-preserved
+loop-byte-preserved c =
+    feed_next _ _ _ _ _ _ c.loop-byte.invariant _ _ c.loop-byte-test.true c.take_byte-fed.auto.out c.take_byte-fed.ensures
 
 pub returns : goal.returns
 returns c =
     let a = c.args in
-    feed_all _ _ _ _ _ _ c.loop-i.invariant _ (room a.part.now a.out.now c.if-part-out.false) c.loop-i-test.false
+    feed_all _ _ _ _ _ _ c.loop-byte.invariant _ (room a.part.now a.out.now c.if-part-out.false) c.loop-byte-test.false

@@ -1,16 +1,18 @@
 -- `lines::put` meets its contract.
-use mathlib.Core.Path.{ap, sym, subst}
+use mathlib.Core.Path.{ap, sym, subst, ◌∙◌}
 use Rattle.text.proofs.Putting.{puts_as}
 use Rattle.text.proofs.Refused.{puts_low}
 use Rattle.lines.specs.Rule.{text_of}
 use Rattle.lines.specs.Inner.{Printable}
+use Rattle.lines.proofs.Keeping.{name_line}
 use Rattle.lines.proofs.put.Goals as goal
 
-pub returns-in-Number : goal.returns-in-Number
-returns-in-Number c = puts_as (ap text_of (sym c.in-Number.is)) c.put_name.ensures
+pub returns-in-Ok : goal.returns-in-Ok
+returns-in-Ok c =
+    puts_as (ap text_of (sym c.in-Ok.is)) (name_line _ c.args.out.now (c.copy_from_slice.ensures.after ∙ c.name.ensures) c.requires.in_bounds)
 
-pub returns-in-Refused : goal.returns-in-Refused
+pub returns-in-Err : goal.returns-in-Err
 unfolding text_of
-returns-in-Refused c =
-    let small = subst Printable c.in-Refused.is c.requires.printable in
-    puts_as (ap text_of (sym c.in-Refused.is)) (puts_low _ c.args.out.now small c.requires.in_bounds c.put_refused.ensures)
+returns-in-Err c =
+    let small = subst Printable c.in-Err.is c.requires.printable in
+    puts_as (ap text_of (sym c.in-Err.is)) (puts_low _ c.args.out.now small c.requires.in_bounds c.put_refused.ensures)

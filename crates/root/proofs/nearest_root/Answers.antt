@@ -46,6 +46,13 @@ below n r e h = leb-false n (r * r + r) (first (leb n (r * r + r)) (ltb (r * r) 
 above : (n r : ℕ) → passes n r ≡ false → n ≤ r * r → n + r ≤ r * r
 above n r e h = ltb-false (r * r) (n + r) (second (leb n (r * r + r)) (ltb (r * r) (n + r)) e (le-leb n (r * r + r) (omega arith)))
 
+-- so the nearest root lies the way that the candidate is moved
+rises : (n r : ℕ) → (1 ≤ n) × (n < 2 ^ 48) → passes n r ≡ false → r * r < n → r < nearest_root_of n
+rises n r p e h = too_small _ _ _ (nearest_near n p.0 p.1) (omega (arith, below n r e h))
+
+falls : (n r : ℕ) → (1 ≤ n) × (n < 2 ^ 48) → passes n r ≡ false → n ≤ r * r → nearest_root_of n < r
+falls n r p e h = too_large _ _ _ (nearest_near n p.0 p.1) (omega (arith, above n r e h, less_one r))
+
 pub overflow_mul-square : goal.overflow_mul-square
 overflow_mul-square c = omega (arith, square_fits c.loop-r.r (omega arith))
 
@@ -53,30 +60,18 @@ pub overflow_add-square : goal.overflow_add-square
 overflow_add-square c = omega (arith, square_fits c.loop-r.r (omega arith))
 
 pub loop-r-smaller-then-square-n : goal.loop-r-smaller-then-square-n
-loop-r-smaller-then-square-n c =
-    let near : Near c.args.n (nearest_root_of c.args.n) = nearest_near c.args.n c.requires.0 c.requires.1 in
-    let rises : c.loop-r.r < nearest_root_of c.args.n = too_small _ _ _ near (omega (arith, below _ _ c.if-n-square.false c.if-square-n.true)) in
-    omega (arith, rises)
+loop-r-smaller-then-square-n c = omega (arith, rises _ _ c.requires c.if-n-square.false c.if-square-n.true)
 
 pub loop-r-preserved-then-square-n : goal.loop-r-preserved-then-square-n
 loop-r-preserved-then-square-n c =
-    let near : Near c.args.n (nearest_root_of c.args.n) = nearest_near c.args.n c.requires.0 c.requires.1 in
-    let rises : c.loop-r.r < nearest_root_of c.args.n = too_small _ _ _ near (omega (arith, below _ _ c.if-n-square.false c.if-square-n.true)) in
-    omega (arith, rises, near_le _ _ c.requires.1 near)
+    let n = c.requires in
+    omega (arith, rises _ _ n c.if-n-square.false c.if-square-n.true, near_le _ _ n.1 (nearest_near _ n.0 n.1))
 
 pub overflow_sub-r : goal.overflow_sub-r
-overflow_sub-r c =
-    let near : Near c.args.n (nearest_root_of c.args.n) = nearest_near c.args.n c.requires.0 c.requires.1 in
-    let falls : nearest_root_of c.args.n < c.loop-r.r = too_large _ _ _ near (omega (arith, above _ _ c.if-n-square.false c.if-square-n.false, less_one c.loop-r.r)) in
-    omega (arith, falls)
+overflow_sub-r c = omega (arith, falls _ _ c.requires c.if-n-square.false c.if-square-n.false)
 
 pub loop-r-smaller : goal.loop-r-smaller
-loop-r-smaller c =
-    let near : Near c.args.n (nearest_root_of c.args.n) = nearest_near c.args.n c.requires.0 c.requires.1 in
-    let falls : nearest_root_of c.args.n < c.loop-r.r = too_large _ _ _ near (omega (arith, above _ _ c.if-n-square.false c.if-square-n.false, less_one c.loop-r.r)) in
-    omega (arith, falls)
+loop-r-smaller c = omega (arith, falls _ _ c.requires c.if-n-square.false c.if-square-n.false)
 
 pub returns : goal.returns
-returns c =
-    let near : Near c.args.n (nearest_root_of c.args.n) = nearest_near c.args.n c.requires.0 c.requires.1 in
-    near_unique _ _ _ (is_near _ _ c.if-n-square.true) near
+returns c = near_unique _ _ _ (is_near _ _ c.if-n-square.true) (nearest_near _ c.requires.0 c.requires.1)

@@ -1,12 +1,12 @@
 -- `root::sqrtf` meets its contract: a float above zero is the infinity or has the bits of a finite number, and the others are the zeros, the
+-- negative numbers and the NaNs.
 use mathlib.Core.Path.{◌≡◌, refl, sym, ap, ◌∙◌, subst}
-use mathlib.Core.Bool.{Bool, true, false, not, ◌&&◌, true≢false, false≢true}
+use mathlib.Core.Bool.{Bool, true, false, ◌&&◌, true≢false, false≢true}
 use Prim.Native.Nat.{ℕ, zero, suc, ◌*◌, ◌≤◌, ◌<◌}
 use native.Mathlib.Nat.{not-le_of_lt, mul-pos, lt_irrefl, zero-lt-suc}
 use native.Mathlib.Omega.{arith}
 use lib.IntN.{ℤ}
-use lib.Dec.{T}
-use lib.Ieee.{Float, nan, inf, fin, binary32, up, down, lt, eq, level, div, fits, is_nan, of_bits, to_bits}
+use lib.Ieee.{Float, nan, inf, fin, binary32, up, down, lt, eq, level, div, fits, of_bits, to_bits}
 use lib.Ieee.Fits.{up_pos}
 use borrow.Author.Tests.{ltb-true, ltb-false, eqb-true}
 use Rattle.root.specs.Root.{sqrt_of, root_bits_of, Root}
@@ -30,11 +30,6 @@ above (inf false) h = infinite
 above (fin true m e) h = absurd (false≢true h)
 above (fin false zero e) h = absurd (none_below (up e) (down e) (ltb-true _ _ h))
 above (fin false (suc m) e) h = finite m e
-
-no_nan : {x : Float} → Above x → T (not (is_nan x))
-unfolding is_nan
-no_nan infinite = tt
-no_nan (finite m e) = tt
 
 in_range : {x : Float} → Above x → fits binary32 x ≡ true → to_bits binary32 x < 0x7f80_0000 → Finite (to_bits binary32 x)
 unfolding to_bits
@@ -78,7 +73,8 @@ some_below m u d p h = flat (suc m * u) d (mul-pos (zero-lt-suc m) p) h
     flat : (a d : ℕ) → 0 < a → a * 1 ≤ 0 * 1 * d → ⊥
     flat a d p h = omega arith
 
-the_rest : (x : Float) → lt (of_bits binary32 0) x ≡ false → eq x (of_bits binary32 0) ≡ false → div binary32 (of_bits binary32 0) (of_bits binary32 0) ≡ sqrt_of x
+the_rest : (x : Float) → lt (of_bits binary32 0) x ≡ false → eq x (of_bits binary32 0) ≡ false
+    → div binary32 (of_bits binary32 0) (of_bits binary32 0) ≡ sqrt_of x
 unfolding lt eq of_bits sqrt_of div
 the_rest nan h k = refl
 the_rest (inf true) h k = refl
@@ -91,11 +87,8 @@ the_rest (fin false (suc m) e) h k = absurd (some_below m (up e) (down e) (up_po
 both : (x : Float) {r : Float} → fits binary32 x ≡ true → r ≡ sqrt_of x → (r ≡ sqrt_of x) × Root x r
 both x f e = (e, subst (Root x) (sym e) (nearest x (rw f tt)))
 
-pub float_to_bits-b : goal.float_to_bits-b
-float_to_bits-b c = no_nan (above _ c.if-x.true)
-
-pub root_bits-requires : goal.root_bits-requires
-root_bits-requires c = in_range (above _ c.if-x.true) c.well_formed.0.1 (omega (arith, c.if-b-lt2139095040.true))
+pub invariant_of-root_bits : goal.invariant_of-root_bits
+invariant_of-root_bits c = record { in_range = in_range (above _ c.if-x.true) c.well_formed.0.1 (omega (arith, c.if-b-lt2139095040.true)) }
 
 pub float_from_bits-result : goal.float_from_bits-result
 float_from_bits-result c =
@@ -104,12 +97,14 @@ float_from_bits-result c =
 
 pub returns-then-b-lt2139095040 : goal.returns-then-b-lt2139095040
 returns-then-b-lt2139095040 c =
-    let p = both c.args.x c.well_formed.0.1 (ap (of_bits binary32) c.root_bits.ensures ∙ the_root (above _ c.if-x.true) (omega (arith, c.if-b-lt2139095040.true))) in
+    let h = the_root (above _ c.if-x.true) (omega (arith, c.if-b-lt2139095040.true)) in
+    let p = both c.args.x c.well_formed.0.1 (ap (of_bits binary32) c.root_bits.ensures ∙ h) in
     record { value = p.0; nearest = p.1 }
 
 pub returns-else-b-lt2139095040 : goal.returns-else-b-lt2139095040
 returns-else-b-lt2139095040 c =
-    let p = both c.args.x c.well_formed.0.1 (the_infinity (above _ c.if-x.true) c.well_formed.0.1 (omega (arith, c.if-b-lt2139095040.false))) in
+    let h = the_infinity (above _ c.if-x.true) c.well_formed.0.1 (omega (arith, c.if-b-lt2139095040.false)) in
+    let p = both c.args.x c.well_formed.0.1 h in
     record { value = p.0; nearest = p.1 }
 
 pub returns-then-x-2 : goal.returns-then-x-2

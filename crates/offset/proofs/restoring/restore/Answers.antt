@@ -1,14 +1,10 @@
--- `offset::restoring::restore` meets its contract: refused with the record's number, or the turned offset is set.
-use native.Mathlib.Omega.{arith}
+-- `offset::restoring::restore` meets its contract: refused by the record's checks, or the turned offset is set.
 use Rattle.offset.proofs.Restored.{turnable, restored}
 use Rattle.offset.proofs.restoring.restore.Goals as goal
 
 pub reframed-requires : goal.reframed-requires
-reframed-requires c =
-    let t = turnable _ _ _ c.is_finite.ensures c.record_refusal-number.ensures c.if-number-ne0.false c.offset_at-offset.ensures in
-    (omega arith, omega arith, t.2)
+reframed-requires c = turnable _ _ _ c.is_finite.ensures c.in_default.ensures c.offset_at-offset.ensures
 
 pub returns : goal.returns
 returns c =
-    restored _ _ _ c.is_finite.ensures c.record_refusal-number.ensures c.if-number-ne0.false c.offset_at-offset.ensures
-    c.reframed.ensures c.set_offset.ensures
+    restored _ _ _ c.is_finite.ensures c.in_default.ensures c.offset_at-offset.ensures c.set_offset.result c.reframed.ensures c.set_offset.ensures

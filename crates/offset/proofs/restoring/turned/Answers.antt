@@ -2,6 +2,5 @@
 use Rattle.offset.proofs.Turning.{is_turned}
 use Rattle.offset.proofs.restoring.turned.Goals as goal
 
-pub returns-in_default : goal.returns-in_default
-returns-in_default c =
-    absurd (c.in_default.not-Turned _ _ _ (is_turned _ _ c.requires.0 c.requires.1 c.turned-answer.ensures))
+pub unreachable-requires : goal.unreachable-requires
+unreachable-requires c = c.in_default.not-Turned _ _ _ (is_turned _ _ c.requires.0 c.requires.1 c.turned.ensures)

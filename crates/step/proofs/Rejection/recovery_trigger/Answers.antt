@@ -4,8 +4,7 @@ use mir.Val.{SFits}
 use mir.Facts.{to_z-of_z}
 use borrow.Author.Rules.{rules}
 use Rattle.step.specs.Sensor.{ratio_of}
-use Rattle.step.proofs.Rejecting.{is_nought_lem, no_nought}
-use Rattle.step.proofs.Ratio.{ratio}
+use Rattle.step.proofs.Ratio.{is_nought_lem, no_nought, ratio}
 use Rattle.step.proofs.Rejection.recovery_trigger.Goals as goal
 
 pub returns-then-timeout-eq0 : goal.returns-then-timeout-eq0

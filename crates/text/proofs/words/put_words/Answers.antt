@@ -9,5 +9,5 @@ returns-then-out-lt36 c = no_words _ _ _ _ c.args.out.now c.if-out-lt36.true
 pub returns : goal.returns
 returns c =
     let old = c.args.out.now in
-    puts_words _ _ _ _ old c.if-out-lt36.false c.copy.auto.out (puts_as c.pair-first.ensures c.copy.ensures)
-    (puts_as c.pair-second.ensures c.copy-2.ensures)
+    puts_words _ _ _ _ old c.if-out-lt36.false c.copy.auto.out (puts_as c.pair.ensures c.copy.ensures)
+    (puts_as c.pair-2.ensures c.copy-2.ensures)

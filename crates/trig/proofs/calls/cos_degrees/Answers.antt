@@ -1,16 +1,6 @@
--- `trig::calls::cos_degrees` meets its contract: refused by its checks, or the number.
-use Rattle.trig.specs.Degrees.{cosine_at}
-use Rattle.trig.specs.Wave.{cos_of}
-use Rattle.trig.proofs.Answering.{refused, answered}
+-- `trig::calls::cos_degrees` meets its contract: a number that its checks let through is near.
+use Rattle.trig.proofs.Answering.{in_range}
 use Rattle.trig.proofs.calls.cos_degrees.Goals as goal
 
-pub returns-then-number-ne0 : goal.returns-then-number-ne0
-returns-then-number-ne0 c =
-    let x = c.args.x in
-    let e = refused x (cos_of x) (cosine_at x) c.refusal-number.ensures c.if-number-ne0.true in
-    record { gives = e.0; near = e.1 }
-
-pub returns : goal.returns
-returns c =
-    let e = answered c.args.x _ _ c.refusal-number.ensures c.if-number-ne0.false c.cos.ensures.value c.cos.ensures.near in
-    record { gives = e.0; near = e.1 }
+pub returns-clause-near : goal.returns-clause-near
+returns-clause-near c = c.cos.ensures.near (in_range c.args.x c.in_ok-check.ensures)

@@ -9,4 +9,4 @@ unfolding scaled_of
 share_small u h U = div-le_of_le-mul (1 * one) (omega (arith, mul-le-mul_right h U))
 
 pub overflow_sub-result : goal.overflow_sub-result
-overflow_sub-result c = omega (arith, c.scaled.ensures.value, share_small c.args.u c.args.h c.requires.1)
+overflow_sub-result c = omega (arith, c.scaled.ensures, share_small c.args.u.n c.args.h.n c.args.u.small)

@@ -7,8 +7,8 @@ ratio-requires c = steep_asks c.args.y c.args.x c.fabsf-ay.ensures c.fabsf-ax.en
 
 pub returns-then-ax-ay : goal.returns-then-ax-ay
 returns-then-ax-ay c =
-    steep_is c.args.y c.args.x c.fabsf-ay.ensures c.fabsf-ax.ensures c.if-ax-ay.true c.ratio.ensures.value c.octant.ensures.value
-    c.steep_steps.ensures.value c.to_degrees.ensures
+    steep_is c.args.y c.args.x c.fabsf-ay.ensures c.fabsf-ax.ensures c.if-ax-ay.true c.ratio.ensures c.octant.ensures c.steep.ensures
+    c.degrees.ensures
 
 pub ratio-requires-then-ax : goal.ratio-requires-then-ax
 ratio-requires-then-ax c =
@@ -16,8 +16,8 @@ ratio-requires-then-ax c =
 
 pub returns-then-ax : goal.returns-then-ax
 returns-then-ax c =
-    flat_is c.args.y c.args.x c.fabsf-ay.ensures c.fabsf-ax.ensures c.if-ax-ay.false c.if-ax.true c.ratio-then-ax.ensures.value
-    c.octant-then-ax.ensures.value c.flat_steps.ensures.value c.to_degrees-then-ax.ensures
+    flat_is c.args.y c.args.x c.fabsf-ay.ensures c.fabsf-ax.ensures c.if-ax-ay.false c.if-ax.true c.ratio-then-ax.ensures
+    c.octant-then-ax.ensures c.flat.ensures c.degrees-then-ax.ensures
 
 pub returns : goal.returns
 returns c = none_is c.args.y c.args.x c.fabsf-ay.ensures c.fabsf-ax.ensures c.if-ax-ay.false c.if-ax.false

@@ -1,11 +1,9 @@
 -- `verdict::Verdict::over` meets its contract.
-use Prim.Native.Nat.{◌-◌}
-use lib.ListN.{length}
-use Rattle.verdict.proofs.Reading.{Read}
+use mathlib.Core.Path.{◌≡◌}
+use lib.ListN.{drop}
+use Rattle.verdict.specs.Verdict.{verdict_of}
 use Rattle.verdict.proofs.Verdict.over.Given as goal
 
-abbrev pub invariant-loop-i : goal.invariant-loop-i
-invariant-loop-i l = Read l.initial.verdict l.text l.verdict l.i
-
-abbrev pub decreases-loop-i : goal.decreases-loop-i
-decreases-loop-i l = length l.text - l.i
+-- what the rest will make of it is what the whole makes
+abbrev pub invariant-loop-byte : goal.invariant-loop-byte
+invariant-loop-byte l = verdict_of l.verdict (drop l.byte-index l.text) ≡ verdict_of l.fn.self l.text

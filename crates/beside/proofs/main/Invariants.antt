@@ -1,5 +1,0 @@
--- `beside::main` ends: the measure is how many turns are left.
-use Rattle.beside.proofs.main.Given as goal
-
-abbrev pub decreases-loop-turns : goal.decreases-loop-turns
-decreases-loop-turns l = l.turns

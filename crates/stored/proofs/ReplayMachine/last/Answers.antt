@@ -1,0 +1,6 @@
+-- A replay prints within the slice.
+use Rattle.text.proofs.Feeding.{within}
+use Rattle.stored.proofs.ReplayMachine.last.Goals as goal
+
+pub returns : goal.returns
+returns c = within _ _ _ _ _ c.last.ensures c.last.auto.out
