@@ -53,7 +53,7 @@ impl Lines {
             Ok(()) => self.put(b'0'),
             Err(refusal) => {
                 let mut line = [0u8; 12];
-                let n = text::put_refused(refusal, &mut line);
+                let n = text::put_refused(refusal.number(), &mut line);
                 self.put_text(line[..n].trim_ascii_end());
             }
         }

@@ -54,7 +54,7 @@ fn put(answer: Result<u8, Refusal>, out: &mut [u8]) -> usize
             out[6] = b'\n';
             7
         }
-        Err(refusal) => text::put_refused(refusal, out),
+        Err(refusal) => text::put_refused(refusal.number(), out),
     }
 }
 

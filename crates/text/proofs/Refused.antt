@@ -1,7 +1,7 @@
 -- The line of a refusal: 10 bytes for a number of the table, 12 at most for any byte; and the last line of a log. Assumes nothing.
 use Prim.Native.Nat.{ℕ, zero, suc, ◌+◌, ◌≤◌, ◌<◌}
 use native.Mathlib.Omega.{arith}
-use mathlib.Core.Path.{◌≡◌, ap, sym}
+use mathlib.Core.Path.{◌≡◌, refl, ap, sym}
 use mathlib.Core.List.{List}
 use lib.ListN.{length}
 use Rattle.text.specs.Text.{decimal_of, named_of, refused_word, refused_of, last_line}
@@ -29,6 +29,10 @@ puts_low k old h room f = fits_put (refused_of k) old (omega (arith, ten k h)) f
 
 pub no_last : (old : List ℕ) {k : ℕ} → k ≡ 0 → Fits (last_line k) old old 0
 no_last old e = fits_as (ap last_line (sym e)) (put_fits _ old (omega arith) (puts_nothing old))
+
+pub is_last : (k : ℕ) {old after : List ℕ} {n : ℕ} → (k ≡ 0 → ⊥) → Fits (refused_of k) old after n → Fits (last_line k) old after n
+is_last zero h f = absurd (h refl)
+is_last (suc k) h f = f
 
 pub last_long : (k : ℕ) → k < 256 → length (last_line k) ≤ 12
 last_long zero h = omega arith

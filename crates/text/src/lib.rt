@@ -9,9 +9,7 @@ mod words; // words.rt: a line of four words
 ghost use Rattle.std.specs.Prelude.{◌≡◌, ◌≤◌, ◌%◌, length};
 ghost use Rattle.text.specs.Text.{digit_of, word_of, decimal_of, named_of, refused_of, last_line};
 ghost use Rattle.text.specs.Putting.{Fits, Puts};
-ghost use Rattle.answer.specs.Rows.{row_of, number_in};
 
-use answer::Refusal;
 pub use words::put_words;
 
 const DIGITS: [u8; 16] = *b"0123456789ABCDEF";
@@ -86,20 +84,20 @@ pub fn put_named(name: &[u8], number: u64, out: &mut [u8]) -> usize
     n + k + 2
 }
 
-// The line of a refusal.
+// The line of a refusal, by its number, whatever number that is.
 #[tactic(auto, unfolding(crate::specs::Text::refused_of, crate::specs::Text::named_of))]
-pub fn put_refused(refusal: Refusal, out: &mut [u8]) -> usize
-    ensures { Fits (refused_of (row_of refusal)) out.old out.new result }
+pub fn put_refused(number: u8, out: &mut [u8]) -> usize
+    ensures { Fits (refused_of number) out.old out.new result }
 {
-    put_named(b"refused", refusal.number() as u64, out)
+    put_named(b"refused", u64::from(number), out)
 }
 
-// The last line of a log: that of a refusal, where one ended it.
-pub fn put_last(outcome: Result<(), Refusal>, out: &mut [u8]) -> usize
-    ensures { Fits (last_line (number_in outcome)) out.old out.new result }
+// The last line of a log: that of a refusal, where one ended it; 0 is none.
+pub fn put_last(number: u8, out: &mut [u8]) -> usize
+    ensures { Fits (last_line number) out.old out.new result }
 {
-    match outcome {
-        Ok(()) => 0,
-        Err(refusal) => put_refused(refusal, out),
+    if number == 0 {
+        return 0;
     }
+    put_refused(number, out)
 }

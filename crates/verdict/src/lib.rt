@@ -3,10 +3,8 @@
 #![tactic(auto)]
 
 ghost use Rattle.std.specs.Prelude.{◌≡◌, ◌⊎◌, ◌≤◌, length, not, eqb};
-ghost use Rattle.answer.specs.Rows.{number_in};
 ghost use Rattle.verdict.specs.Verdict.{no_verdict, next_of, ended_of, digit_of, byte_of, verdict_of, is_refused};
 
-use answer::Refusal;
 use std::io::{Cursor, Error, ErrorKind, Write};
 
 // The descriptor of standard error: what is said there is written to it, so that no caller has to lend a runtime.
@@ -137,22 +135,21 @@ impl Verdict {
     }
 }
 
-// Names the refusal that ended a log, in its header or in the record behind so many, if there is one; whether there is one.
-// A log that has begun may have no record yet, so the two are no `Option`.
-pub fn tell_log(program: &[u8], begun: bool, outcome: Result<(), Refusal>, records: u64) -> bool
-    ensures { result ≡ not (eqb (number_in outcome) 0) }
+// Names the refusal that ended a log, in its header or in the record behind so many, if there is one; whether there is one. The refusal is
+// given by its number, whatever that is, and 0 is none. A log that has begun may have no record yet, so the two are no `Option`.
+pub fn tell_log(program: &[u8], begun: bool, number: u8, records: u64) -> bool
+    ensures { result ≡ not (eqb number 0) }
 {
-    let Err(refusal) = outcome else {
+    if number == 0 {
         return false;
-    };
-    let number = u64::from(refusal.number());
+    }
     if begun {
-        name(program, b"record", next(records), number);
+        name(program, b"record", next(records), u64::from(number));
     } else {
         let fd = STDERR;
         io::write_all(fd, program);
         io::write_all(fd, b": refused ");
-        io::print_decimal(fd, number);
+        io::print_decimal(fd, u64::from(number));
         io::write_all(fd, b" in the header\n");
     }
     true

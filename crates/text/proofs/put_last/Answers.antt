@@ -1,8 +1,9 @@
 -- `text::put_last` meets its contract.
-use mathlib.Core.Path.{ap}
-use Rattle.answer.specs.Rows.{number_in}
-use Rattle.text.proofs.Refused.{no_last}
+use Rattle.text.proofs.Refused.{no_last, is_last}
 use Rattle.text.proofs.put_last.Goals as goal
 
-pub returns-in-Ok : goal.returns-in-Ok
-returns-in-Ok c = no_last _ (ap number_in c.in-Ok.is)
+pub returns-then-number-eq0 : goal.returns-then-number-eq0
+returns-then-number-eq0 c = no_last _ c.if-number-eq0.true
+
+pub returns : goal.returns
+returns c = is_last _ c.if-number-eq0.false c.put_refused.ensures
