@@ -2,16 +2,34 @@
 use Prim.Native.Nat.{ℕ, zero, suc, ◌+◌, ◌*◌, ◌/◌, ◌%◌, ◌<◌, ◌≤◌}
 use native.Mathlib.Omega.{arith}
 use native.Mathlib.Decide.{dec_lt}
-use mathlib.Core.Path.{◌≡◌, refl, ap, ◌∙◌}
-use mathlib.Core.Bool.{Bool, true, false, not, cond}
+use mathlib.Core.Path.{◌≡◌, refl, ap, sym, ◌∙◌, subst}
+use mathlib.Core.Bool.{Bool, true, false, not, cond, ◌&&◌}
 use mathlib.Core.List.{List, [], ◌∷◌}
 use lib.Dec.{T, ltb, eqb}
 use lib.ListN.{length, get_or, take, drop, drop_of_length-le}
 use lib.Seq.{drop-cons}
-use lib.Ieee.{Float, nan, inf, fin, binary32, is_nan, odd, of_fields, of_bits}
+use lib.Ieee.{Float, nan, inf, fin, binary32, is_nan, nan_bits, odd, of_fields, of_bits, to_bits, ne, div}
+use lib.Ieee.Bits.{nan_bits_is}
+use lib.Ieee.Compare.{differs_from_itself}
 use lib.Ieee.Scale.{finite}
 use borrow.Author.Tests.{lt-ltb, le-ltb, eq-eqb, ne_eqb}
 use Rattle.wire.specs.Wire.{finite_bits}
+
+-- a NaN's pattern without the sign's bit is above an infinity's
+pub nan_above : (n : ℕ) → ltb 2139095040 (n % 2147483648) ≡ nan_bits binary32 n
+unfolding nan_bits
+nan_above n = go (dec_lt 2139095040 (n % 2147483648)) (dec_lt (n % 2147483648) 2139095040)
+  where
+    go : Dec (2139095040 < n % 2147483648) → Dec (n % 2147483648 < 2139095040)
+        → ltb 2139095040 (n % 2147483648) ≡ (eqb (n % 2147483648 / 8388608) 255 && not (eqb (n % 8388608) 0))
+    go (yes l) d =
+        simp (lt-ltb 2139095040 (n % 2147483648) l, eq-eqb (n % 2147483648 / 8388608) 255 (omega arith))
+        (simp (ne_eqb (n % 8388608) 0 (λ e. omega arith)))
+    go (no g) (yes h) =
+        simp (le-ltb 2139095040 (n % 2147483648) (omega arith), ne_eqb (n % 2147483648 / 8388608) 255 (λ e. omega arith))
+    go (no g) (no h) =
+        simp (le-ltb 2139095040 (n % 2147483648) (omega arith), eq-eqb (n % 2147483648 / 8388608) 255 (omega arith))
+        (simp (eq-eqb (n % 8388608) 0 (omega arith)))
 
 finite_odd : (d : ℕ) (s : Bool) (q k l : ℕ) → finite (odd d s q k l) ≡ true
 unfolding odd
@@ -62,3 +80,28 @@ pub spelled_part : (n : ℕ) (s : List ℕ) (i : ℕ) → n + i ≤ length s →
 spelled_part zero s i h = refl
 spelled_part (suc n) s i h =
     ap (take (suc n)) (drop-cons s i 0 (omega arith)) ∙ ap (λ (l : List ℕ). get_or s i 0 ∷ l) (spelled_part n s (suc i) (omega arith))
+
+-- only a NaN differs from itself
+pub nan_pattern : (x : Float) → ne x x ≡ true → 2143289344 ≡ to_bits binary32 x
+unfolding to_bits
+nan_pattern x h = ap (to_bits binary32) (sym (differs_from_itself x (subst T (sym h) tt)))
+
+pub equal_no_nan : (x : Float) → ne x x ≡ false → T (not (is_nan x))
+unfolding is_nan ne
+equal_no_nan nan h = subst T h tt
+equal_no_nan (inf s) h = tt
+equal_no_nan (fin s m e) h = tt
+
+is_nan_lem : (x : Float) → is_nan x ≡ true → x ≡ nan
+unfolding is_nan
+is_nan_lem nan h = refl
+is_nan_lem (inf s) h = absurd (subst T (sym h) tt)
+is_nan_lem (fin s m e) h = absurd (subst T (sym h) tt)
+
+zero_over_zero : div binary32 (of_bits binary32 0) (of_bits binary32 0) ≡ nan
+unfolding div of_bits
+zero_over_zero = refl
+
+-- 0.0 / 0.0 is the float of every NaN's pattern
+pub quotient_is_nan : (n : ℕ) → nan_bits binary32 n ≡ true → div binary32 (of_bits binary32 0) (of_bits binary32 0) ≡ of_bits binary32 n
+quotient_is_nan n h = zero_over_zero ∙ sym (is_nan_lem (of_bits binary32 n) (sym (nan_bits_is binary32 n) ∙ h))

@@ -1,11 +1,11 @@
--- Several bytes that are read are one number, and what was written is read back where it has room. Assumes nothing.
+-- Several bytes read or stored are one number, and what was written is read back where it has room. Assumes nothing.
 use Prim.Native.Nat.{ℕ, ◌+◌, ◌*◌, ◌/◌, ◌%◌, ◌≤◌}
 use native.Mathlib.Nat.{add-zero}
 use native.Mathlib.Omega.{arith}
 use native.Mathlib.Numerals.{unary_clauses}
 use mathlib.Core.Path.{◌≡◌, ap, sym, ◌∙◌}
 use mathlib.Core.List.{List, [], ◌∷◌, ◌++◌, append_assoc}
-use lib.ListN.{length, take, drop, get_or}
+use lib.ListN.{length, take, drop, get_or, set}
 use lib.Seq.{sets, sets-eq, length-take-le, get_or-append-add}
 use Rattle.wire.specs.Wire.{u16_at, bits_at, put_u16, put_bits, ReadBack}
 use Rattle.wire.proofs.Laws.{digits}
@@ -17,6 +17,14 @@ module _ (s : List ℕ) (at : ℕ) where
   pub bits_sum : {a b c d : ℕ} → a ≡ get_or s (at + 0) 0 → b ≡ get_or s (at + 1) 0 → c ≡ get_or s (at + 2) 0 → d ≡ get_or s (at + 3) 0
       → a + 256 * b + 65536 * c + 16777216 * d ≡ bits_at s at
   bits_sum p q r t = rw (p, q, r, t, add-zero)
+
+module _ (s : List ℕ) (at n : ℕ) where
+  pub u16_stores : {t u : List ℕ} → t ≡ set s (at + 0) (n % 256) → u ≡ set t (at + 1) (n / 256) → u ≡ put_u16 s at n
+  u16_stores p q = rw (q, p, add-zero)
+
+  pub bits_stores : {t u v w : List ℕ} → t ≡ set s (at + 0) (n % 256) → u ≡ set t (at + 1) (n / 256 % 256)
+      → v ≡ set u (at + 2) (n / 65536 % 256) → w ≡ set v (at + 3) (n / 16777216) → w ≡ put_bits s at n
+  bits_stores p q r t = rw (t, r, q, p, add-zero)
 
 -- after stores from `at` on, the k-th place after it has the k-th of what was stored
 read_sets : (s vs : List ℕ) (at k : ℕ) → at + length vs ≤ length s → get_or (sets s at vs) (at + k) 0 ≡ get_or (vs ++ drop (at + length vs) s) k 0
