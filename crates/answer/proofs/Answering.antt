@@ -1,5 +1,5 @@
 -- What the returns of a call have to show, from the number of its checks: the refusal and nothing changed, or the answer and the new state. Assumes nothing.
-use Prim.Native.Nat.{ℕ, zero, suc}
+use Prim.Native.Nat.{ℕ, zero, suc, ◌≤◌}
 use mathlib.Core.Path.{◌≡◌, refl, sym, ap, subst, ◌∙◌}
 use native.Mathlib.Omega.{arith}
 use mathlib.Core.Bool.{Bool, true, false, not}
@@ -15,7 +15,7 @@ use Rattle.std.specs.declared.result.Result.TheVariants.{Ok, Err}
 use Rattle.answer.specs.Refusals.{Check, check, refusal_of, accepted}
 use Rattle.answer.specs.Said.{Said, refusal, number_said, values_said}
 use Rattle.answer.specs.Rows.{row_of, refusal_at, number_in, result_said}
-use Rattle.answer.specs.Answers.{number_of, answer_said, refused}
+use Rattle.answer.specs.Answers.{number_of, values_of, answer_said, refused}
 use Rattle.answer.specs.Promises.{Answered, Answers, Results, Changed, Moved, One, OnlyOne}
 
 -- ---- which check fails
@@ -46,7 +46,17 @@ unfailed k false cs e = (refl, e)
 -- ---- a refusal's number, and the refusal of a number
 
 pub at_row : (e : Refusal) → refusal_at (row_of e) ≡ e
-at_row = elim [ Length ↦ refl | Mark ↦ refl | Version ↦ refl | Unknown ↦ refl | NotFinite ↦ refl | OutOfRange ↦ refl | Overflow ↦ refl | Sequence ↦ refl | Norm ↦ refl | Shared ↦ refl | TooMany ↦ refl ]
+at_row Length = refl
+at_row Mark = refl
+at_row Version = refl
+at_row Unknown = refl
+at_row NotFinite = refl
+at_row OutOfRange = refl
+at_row Overflow = refl
+at_row Sequence = refl
+at_row Norm = refl
+at_row Shared = refl
+at_row TooMany = refl
 
 pub is_row : (e : Refusal) → row_of e ≡ 0 → ⊥
 is_row e h = absurd (go e h)
@@ -64,6 +74,21 @@ is_row e h = absurd (go e h)
     go Shared h = omega arith
     go TooMany h = omega arith
 
+-- each number from 1 to 11 is a row's
+has_row : (k : ℕ) → k ≤ 11 → (k ≡ 0 → ⊥) → row_of (refusal_at k) ≡ k
+has_row zero l h = absurd (h refl)
+has_row (suc zero) l h = refl
+has_row (suc (suc zero)) l h = refl
+has_row (suc (suc (suc zero))) l h = refl
+has_row (suc (suc (suc (suc zero)))) l h = refl
+has_row (suc (suc (suc (suc (suc zero))))) l h = refl
+has_row (suc (suc (suc (suc (suc (suc zero)))))) l h = refl
+has_row (suc (suc (suc (suc (suc (suc (suc zero))))))) l h = refl
+has_row (suc (suc (suc (suc (suc (suc (suc (suc zero)))))))) l h = refl
+has_row (suc (suc (suc (suc (suc (suc (suc (suc (suc zero))))))))) l h = refl
+has_row (suc (suc (suc (suc (suc (suc (suc (suc (suc (suc zero)))))))))) l h = refl
+has_row (suc (suc (suc (suc (suc (suc (suc (suc (suc (suc (suc k))))))))))) l h = omega arith
+
 -- a result that gives nothing is known by its number
 pub same_result : (r s : Result (Unit {0}) Refusal) → number_in r ≡ number_in s → r ≡ s
 same_result (Ok u) (Ok v) h = refl
@@ -71,8 +96,35 @@ same_result (Ok u) (Err e) h = absurd (is_row e (sym h))
 same_result (Err e) (Ok v) h = absurd (is_row e h)
 same_result (Err e) (Err f) h = ap Err (sym (at_row e) ∙ ap refusal_at h ∙ at_row f)
 
--- ---- a call that answers, of any type of answers whose refusals carry their number alone
+-- ---- a call that answers, of any type of answers
 
+module _ {A B : Type 0} (said : A → Said B) (refused : ℕ → A) (cs : List Check) (a : A) (z : number_said (said a) ≡ 0) where
+  -- it is enough that the refusal of the number that the checks give says that number and nothing else
+  by_number : (k : ℕ) → refusal_of cs ≡ k → ((k ≡ 0 → ⊥) → said (refused k) ≡ refusal k) → Answered said refused cs a (accepted k a (refused k))
+  by_number zero e b =
+      record {
+        exact = ap (λ (n : ℕ). accepted n a (refused n)) (sym e);
+        number = z ∙ sym e;
+        values = ap (λ (n : ℕ). accepted n (values_said (said a)) []) (sym e);
+      }
+  by_number (suc k) e b =
+      let says = b (λ h. omega arith) in
+      record {
+        exact = ap (λ (n : ℕ). accepted n a (refused n)) (sym e);
+        number = ap number_said says ∙ sym e;
+        values = ap values_said says ∙ ap (λ (n : ℕ). accepted n (values_said (said a)) []) (sym e);
+      }
+
+  pub gives_by : 0 ≡ refusal_of cs → {r : A} → r ≡ a → Answered said refused cs a r
+  gives_by e f = subst (λ (x : A). Answered said refused cs a x) (sym f) (by_number 0 (sym e) (λ h. absurd (h refl)))
+
+-- where every number has a refusal that carries it alone
+module _ {A B : Type 0} (said : A → Said B) (refused : ℕ → A) (bare : (n : ℕ) → said (refused n) ≡ refusal n)
+    (cs : List Check) (a : A) (z : number_said (said a) ≡ 0) where
+  pub answered : (k : ℕ) → refusal_of cs ≡ k → Answered said refused cs a (accepted k a (refused k))
+  answered k e = by_number said refused cs a z k e (λ h. bare k)
+
+-- where every row has
 module _ {A B : Type 0} (said : A → Said B) (refused : ℕ → A) (bare : (e : Refusal) → said (refused (row_of e)) ≡ refusal (row_of e))
     (cs : List Check) (a : A) (z : number_said (said a) ≡ 0) where
   pub refuses_by : (e : Refusal) → row_of e ≡ refusal_of cs → {r : A} → r ≡ refused (row_of e) → Answered said refused cs a r
@@ -80,23 +132,7 @@ module _ {A B : Type 0} (said : A → Said B) (refused : ℕ → A) (bare : (e :
     where
       go : (k : ℕ) → k ≡ refusal_of cs → (k ≡ 0 → ⊥) → said (refused k) ≡ refusal k → Answered said refused cs a (refused k)
       go zero p g b = absurd (g refl)
-      go (suc k) p g b =
-          record {
-            exact = ap (λ (n : ℕ). accepted n a (refused n)) p;
-            number = ap number_said b ∙ p;
-            values = ap values_said b ∙ ap (λ (n : ℕ). accepted n (values_said (said a)) []) p;
-          }
-
-  pub gives_by : 0 ≡ refusal_of cs → {r : A} → r ≡ a → Answered said refused cs a r
-  gives_by e f =
-      subst
-      (λ (x : A). Answered said refused cs a x)
-      (sym f)
-      (record {
-        exact = ap (λ (n : ℕ). accepted n a (refused n)) e;
-        number = z ∙ e;
-        values = ap (λ (n : ℕ). accepted n (values_said (said a)) []) e;
-      })
+      go (suc k) p g b = by_number said refused cs a z (suc k) (sym p) (λ h. b)
 
 -- ---- a result
 
@@ -109,7 +145,7 @@ module _ {A B : Type 0} (vals : A → List B) (cs : List Check) (a : A) where
       refuses_by (result_said vals) (λ k. Err (refusal_at k)) (λ f. ap refusal (ap row_of (at_row f))) cs (Ok a) refl e n (ap Err (sym (at_row e)))
 
   pub gives_result : 0 ≡ refusal_of cs → {r : Result A Refusal} → r ≡ Ok a → Results vals cs a r
-  gives_result = gives_by (result_said vals) (λ k. Err (refusal_at k)) (λ f. ap refusal (ap row_of (at_row f))) cs (Ok a) refl
+  gives_result = gives_by (result_said vals) (λ k. Err (refusal_at k)) cs (Ok a) refl
 
 -- ---- an `Answer`
 
@@ -118,7 +154,25 @@ module _ (cs : List Check) (a : Answer) (z : number_of a ≡ 0) where
   refuses e n = refuses_by answer_said refused (λ f. ap refusal (ap row_of (at_row f))) cs a z e n (ap Refused (sym (at_row e)))
 
   pub gives : 0 ≡ refusal_of cs → {r : Answer} → r ≡ a → Answers cs a r
-  gives = gives_by answer_said refused (λ f. ap refusal (ap row_of (at_row f))) cs a z
+  gives = gives_by answer_said refused cs a z
+
+-- an `Answer` that is what the checks say, and has their number, is one by them: the promise says both, so that less is not enough
+pub answers_by_number : (cs : List Check) (a r : Answer) → number_of r ≡ refusal_of cs → r ≡ accepted (refusal_of cs) a (refused (refusal_of cs))
+    → Answers cs a r
+answers_by_number cs a r n e = record { exact = e; number = n; values = go (refusal_of cs) e }
+  where
+    go : (k : ℕ) → r ≡ accepted k a (refused k) → values_of r ≡ accepted k (values_of a) []
+    go zero f = ap values_of f
+    go (suc k) f = ap values_of f
+
+-- one that is what the checks say is one by them, where they give 0 or a row's number: no answer carries another
+pub answers : (cs : List Check) (a r : Answer) → number_of a ≡ 0 → refusal_of cs ≤ 11 → r ≡ accepted (refusal_of cs) a (refused (refusal_of cs))
+    → Answers cs a r
+answers cs a r z l e =
+    subst
+    (λ (x : Answer). Answers cs a x)
+    (sym e)
+    (by_number answer_said refused cs a z (refusal_of cs) refl (λ h. ap refusal (has_row (refusal_of cs) l h)))
 
 -- ---- a call that changes something
 

@@ -1,11 +1,14 @@
--- Wrong numbers that the table's law and an answer's promise refuse, each by evaluation. Assumes nothing.
+-- Wrong numbers and states that the table's law and the promises refuse, each by evaluation. Assumes nothing.
 use Prim.Native.Nat.{ℕ}
-use mathlib.Core.Path.{◌≡◌}
+use mathlib.Core.Path.{◌≡◌, ap}
 use mathlib.Core.Bool.{true, false}
 use mathlib.Core.List.{[], ◌∷◌}
 use native.Mathlib.Omega.{arith}
 use lib.Ieee.{nan}
+use Rattle.answer.specs.declared.Answer.{Answer}
 use Rattle.answer.specs.declared.Answer.TheVariants.{Rates, Refused}
+use Rattle.answer.specs.declared.change.Change.{Change}
+use Rattle.answer.specs.declared.change.Reading.{Reading}
 use Rattle.answer.specs.declared.refusal.Refusal.TheVariants.{Unknown, NotFinite, TooMany}
 use Rattle.answer.specs.declared.refusal.Refusal.{Refusal}
 use Rattle.std.specs.declared.result.Result.{Result}
@@ -36,3 +39,49 @@ of_number_in = (λ h. omega arith, λ h. omega arith)
 -- of a refusal 0; of rates, whatever they are, a refusal's number
 pub of_number : (0 ≡ number_of (Refused Unknown) → ⊥) × (5 ≡ number_of (Rates nan nan nan) → ⊥)
 of_number = (λ h. omega arith, λ h. omega arith)
+
+-- of a refusal none, and another; of rates, whatever they are, a refusal
+pub of_check
+    : (told (Ok tt) ≡ number_of (Refused Unknown) → ⊥)
+    × (told (Err NotFinite) ≡ number_of (Refused Unknown) → ⊥)
+    × (told (Err NotFinite) ≡ number_of (Rates nan nan nan) → ⊥)
+of_check = (λ h. omega arith, λ h. omega arith, λ h. omega arith)
+
+-- a change and a reading of the state n
+abbrev changed : ℕ → Result (Unit {0}) Refusal → Change ℕ
+changed n r = record { state = n; result = r }
+
+abbrev answering : ℕ → Answer → Reading ℕ
+answering n a = record { state = n; answer = a }
+
+module _ {c d : Change ℕ} (h : c ≡ d) where
+  its_state : c.state ≡ d.state
+  its_state = ap (λ (e : Change ℕ). e.state) h
+
+  its_number : told c.result ≡ told d.result
+  its_number = ap (λ (e : Change ℕ). told e.result) h
+
+-- another state; a refusal
+pub of_made : (changed 2 (Ok tt) ≡ changed 1 (Ok tt) → ⊥) × (changed 1 (Err Unknown) ≡ changed 1 (Ok tt) → ⊥)
+of_made = (λ h. omega (arith, its_state h), λ h. omega (arith, its_number h))
+
+-- another state; none; another refusal
+pub of_refused_change
+    : (changed 2 (Err Unknown) ≡ changed 1 (Err Unknown) → ⊥)
+    × (changed 1 (Ok tt) ≡ changed 1 (Err Unknown) → ⊥)
+    × (changed 1 (Err NotFinite) ≡ changed 1 (Err Unknown) → ⊥)
+of_refused_change = (λ h. omega (arith, its_state h), λ h. omega (arith, its_number h), λ h. omega (arith, its_number h))
+
+module _ {c d : Reading ℕ} (h : c ≡ d) where
+  read_state : c.state ≡ d.state
+  read_state = ap (λ (e : Reading ℕ). e.state) h
+
+  read_number : number_of c.answer ≡ number_of d.answer
+  read_number = ap (λ (e : Reading ℕ). number_of e.answer) h
+
+-- another state; rates; another refusal
+pub of_refused_reading
+    : (answering 2 (Refused Unknown) ≡ answering 1 (Refused Unknown) → ⊥)
+    × (answering 1 (Rates nan nan nan) ≡ answering 1 (Refused Unknown) → ⊥)
+    × (answering 1 (Refused NotFinite) ≡ answering 1 (Refused Unknown) → ⊥)
+of_refused_reading = (λ h. omega (arith, read_state h), λ h. omega (arith, read_number h), λ h. omega (arith, read_number h))

@@ -1,5 +1,5 @@
 -- The rows of the refusal table by their numbers, and what a result that may be a refusal says.
-use Rattle.std.specs.Prelude.{ℕ, zero, suc, List, []}
+use Rattle.std.specs.Prelude.{ℕ, zero, suc, List}
 use Rattle.std.specs.declared.result.Result.{Result}
 use Rattle.std.specs.declared.result.Result.TheVariants.{Ok, Err}
 use Rattle.answer.specs.declared.refusal.Refusal.{Refusal}
