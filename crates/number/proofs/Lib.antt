@@ -10,7 +10,7 @@ pub mod Finite  -- a finite sum, difference or product shows finite operands
 pub mod Rounding  -- a rounded fraction lies near the fraction
 pub mod Units  -- products, sums and reciprocals in units of the smallest f32; on Signs, Exact and Rounding
 pub mod Vanish  -- what is zero where a product or a sum is; on Neutral, Finite and Units
-pub mod Signed  -- a test of two magnitudes
+pub mod Signed  -- a float against the ends of 32 bits, and what it is cut to
 pub mod AtMost  -- a number of a size at most a whole number, and sums and products of such; on Signs, Zeros, Units and Signed
 pub mod Quotient  -- the quotient of two whole numbers is finite; on AtMost
 pub mod Apart  -- values told apart by a code, for each crate's `Wrong`

@@ -3,7 +3,7 @@ use Rattle.std.proofs.Common.{◌≡◌, ℕ, zero, suc, ◌*◌, Bool, true, fa
 use mathlib.Core.Bool.{beq, or-true}
 use native.Mathlib.Nat.{sub-zero}
 use lib.Dec.{leb-zero, leb-suc-suc, leb-suc-zero}
-use lib.Ieee.{Float, nan, inf, fin, Format, up, down, unlike, round, neg, sum, add, sub, mul, below, level, lt, eq}
+use lib.Ieee.{Float, nan, inf, fin, Format, up, down, unlike, round, neg, sum, add, sub, mul, below, level, lt, le, eq}
 use lib.Ieee.Scale.{finite}
 use Rattle.number.specs.Same.{plain, Same, fabsf_of}
 use Rattle.number.proofs.Signs.{Like, zero_same, add_neg_like, sub_neg_like}
@@ -195,6 +195,10 @@ same_lt {x} {x'} {y} {y'} p q = lt_plain x y ∙ ap₂ lt p.number q.number ∙ 
 
 pub same_eq : {x x' y y' : Float} → Same x x' → Same y y' → eq x y ≡ eq x' y'
 same_eq {x} {x'} {y} {y'} p q = eq_plain x y ∙ ap₂ eq p.number q.number ∙ sym (eq_plain x' y')
+
+pub same_le : {x x' y y' : Float} → Same x x' → Same y y' → le x y ≡ le x' y'
+unfolding le
+same_le p q = ap₂ ◌||◌ (same_lt p q) (same_eq p q)
 
 pub same_finite : {x y : Float} → Same x y → finite x ≡ finite y
 same_finite {x} {y} p = finite_plain x ∙ ap finite p.number ∙ sym (finite_plain y)

@@ -42,6 +42,14 @@ cos_most x t =
 
 -- ---- finite
 
+pub sin_finite : (x : Float) → finite (sin_of x) ≡ in_turn x
+unfolding sin_of
+sin_finite x = go (in_turn x) refl
+  where
+    go : (b : Bool) → in_turn x ≡ b → finite (sin_of x) ≡ b
+    go true e = most_finite (sin_most x (is_so e))
+    go false e = rw e
+
 pub cos_finite : (x : Float) → finite (cos_of x) ≡ in_turn x
 unfolding cos_of
 cos_finite x = go (in_turn x) refl

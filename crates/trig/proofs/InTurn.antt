@@ -1,15 +1,18 @@
 -- The range of the sine and the cosine is up to 360 in size; the angle of finite y and x is in it, and it is an f32. Assumes nothing.
-use Rattle.std.proofs.Common.{ℕ, ◌+◌, ◌*◌, ◌≤◌, Bool, true, false, ◌&&◌, ◌||◌, T, eqb, ltb, pos, sym, subst, inl, inr, le_of_eq, eq-or-lt_of_le}
+use Rattle.std.proofs.Common.{ℕ, ◌+◌, ◌-◌, ◌*◌, ◌≤◌, Bool, true, false, cond, ◌&&◌, ◌||◌, T, eqb, ltb, pos, sym, subst, inl, inr, le_of_eq, eq-or-lt_of_le}
 use Rattle.std.proofs.Common.{arith, ltb→lt, lt→ltb, lt-ltb, eq-eqb}
-use lib.Ieee.{Float, nan, inf, fin, of_bits, up, down, neg, lt, le, eq}
-use lib.Ieee.Fits.{and_i, and_l, and_r, down_pos}
+use lib.Ieee.{Float, nan, inf, fin, binary32, fits, of_bits, up, down, neg, lt, le, eq}
+use lib.Ieee.Bits.{of_bits-fits}
+use lib.Ieee.Fits.{and_i, and_l, and_r, down_pos, cond-fits, nan-fits, neg-fits, div-fits}
 use lib.Ieee.Positive.{num, den}
 use lib.Ieee.Scale.{finite}
 use Rattle.number.specs.Float32 as float
 use Rattle.number.specs.Float32.{◌⊘◌}
+use Rattle.number.specs.Same.{fabsf_of}
 use Rattle.number.proofs.AtMost.{Within, AtMost}
 use Rattle.trig.specs.Degrees.{in_turn, sine_at, cosine_at}
-use Rattle.trig.specs.Angle.{signed, turns_to, straight, is_angle, Angled, nowhere, toward, angle_of}
+use Rattle.trig.specs.Wave.{whole}
+use Rattle.trig.specs.Angle.{signed, turns_to, straight, is_angle, Angled, nowhere, toward, two_to16, full_turn, degrees_of, bearing_of, angle_of}
 use Rattle.trig.proofs.Steps.{either_le, turn_bound}
 use Rattle.trig.proofs.Ratios.{or_l, le_either}
 use Rattle.trig.proofs.Angles.{angles}
@@ -74,3 +77,19 @@ angled_in_turn y x r (toward t) =
 
 pub angle_in_turn : (y x : Float) → T (finite y) → T (finite x) → T (in_turn (angle_of y x))
 angle_in_turn y x fy fx = angled_in_turn y x (angle_of y x) (angles y x fy fx)
+
+degrees_fits : (steps : ℕ) → T (fits binary32 (degrees_of steps))
+unfolding degrees_of
+degrees_fits steps =
+    cond-fits binary32 (ltb steps full_turn) (neg (whole (full_turn - steps) ⊘ two_to16)) (whole (steps - full_turn) ⊘ two_to16)
+    (neg-fits binary32 _ (div-fits binary32 (whole (full_turn - steps)) two_to16)) (div-fits binary32 (whole (steps - full_turn)) two_to16)
+
+pub angle_fits : (y x : Float) → T (fits binary32 (angle_of y x))
+unfolding angle_of bearing_of
+angle_fits y x = by_tests (finite y && finite x) (lt (fabsf_of x) (fabsf_of y)) (lt float.zero (fabsf_of x)) _ _
+  where
+    by_tests : (finite steep some : Bool) (m n : ℕ) → T (fits binary32 (cond finite (cond steep (degrees_of m) (cond some (degrees_of n) float.zero)) nan))
+    by_tests true true some m n = degrees_fits m
+    by_tests true false true m n = degrees_fits n
+    by_tests true false false m n = of_bits-fits binary32 0
+    by_tests false steep some m n = nan-fits binary32

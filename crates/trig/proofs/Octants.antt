@@ -52,6 +52,10 @@ module _ (p : ℕ) (P : p ≤ tangent_one) (s : Span) (b : Between p s) (step : 
   unfolding nearer_of
   nearer_level = by_test (leb (short p s) (past p s)) refl
 
+-- the nearer end is at most 45 degrees
+pub nearer_small : (p : ℕ) → p ≤ tangent_one → nearer_of p (bisected_of p) ≤ most
+nearer_small p P = (nearer_level p P (span_of p 22) (spanned p 22 P).between (one_step p P)).small
+
 pub leveled : Leveled
 unfolding octant_of
 leveled p P = by_test (is_level p (guess_of p)) refl

@@ -2,12 +2,12 @@
 use Rattle.std.proofs.Common.{◌≡◌, ℕ, zero, suc, ◌+◌, ◌-◌, ◌*◌, ◌/◌, ◌%◌, ◌^◌, ◌<◌, ◌≤◌, Bool, true, false, ◌&&◌, ◌||◌, T, eqb, ltb, leb, ℤ, pos, negsuc, sym}
 use Rattle.std.proofs.Common.{refl, ap, ◌∙◌, subst, inl, inr, true≢false, le_trans, le_of_eq, lt_of_lt_of_le, lt_of_le_of_lt, le_of_lt, mul-le-mul_right}
 use Rattle.std.proofs.Common.{mul_assoc, div-lt_iff_lt-mul, lt_of_mul-lt-mul_right, mul-lt-mul_of_pos_right, one-mul, zero-mul, mul-one, not-le_of_lt, arith}
-use Rattle.std.proofs.Common.{lit<, lit≤, eqb→eq, ltb→lt, lt→ltb, leb→le, pow_pos, pow_mono, pow-add, shl_lt, ltb-false, ltb-true}
+use Rattle.std.proofs.Common.{lit<, lit≤, le→leb, eqb→eq, ltb→lt, lt→ltb, leb→le, pow_pos, pow_mono, pow-add, shl_lt, ltb-false, ltb-true}
 use native.Mathlib.Nat.{zero-div}
 use native.Mathlib.Nat.{div-le_of_le-mul}
 use mathlib.Core.Bool.{false≢true}
 use lib.Pow.{pow-lt}
-use lib.Ieee.{Float, nan, inf, fin, binary32, up, down, fits, of_bits, round, mul, neg, to_unsigned, lt, le, eq}
+use lib.Ieee.{Float, nan, inf, fin, binary32, up, down, fits, of_bits, round, mul, neg, to_unsigned, in_float, lt, le, eq}
 use lib.Ieee.Exact.{HasValue, round_exact}
 use lib.Ieee.Nearest.{div_same}
 use lib.Ieee.Fits.{and_l, and_r, down_pos}
@@ -161,3 +161,7 @@ plus_gives (fin true m e) t h =
 plus_gives (fin false m e) t h = refl
 
 -- ---- a whole number as a float
+
+pub in_float_lem : (n : ℕ) → n ≤ 16777216 → T (in_float binary32 (pos n))
+unfolding in_float
+in_float_lem n h = le→leb n 16777216 h

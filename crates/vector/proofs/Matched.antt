@@ -1,7 +1,11 @@
--- A match on a number with an arm for each of the first ones: what the last arm, `_`, knows. Assumes nothing.
+-- A match on a number with an arm for each of the first ones: what an arm has to show, and what the last arm, `_`, knows. Assumes nothing.
 use Prim.Native.Nat.{ℕ, zero, suc, ◌≤◌, zero-le}
-use mathlib.Core.Path.{◌≡◌, sym}
+use mathlib.Core.Path.{◌≡◌, ap, sym}
 use lib.Arith.{lt_of_le-ne}
+
+-- the arm of the number k, of a match that gives f of its number
+pub arm : (f : ℕ → ℕ) {n k : ℕ} → n ≡ k → f k ≡ f n
+arm f e = ap f (sym e)
 
 -- the number is none of 0, 1, .., k - 1: the shape of `c.match.rest`
 abbrev pub Rest : ℕ → ℕ → Type 0
