@@ -36,9 +36,13 @@ unfolding finite_settings
 of_settings_is_finite = (true≢false, false≢true)
 
 -- of settings, their number: a rate of zero taken; a NaN refused for its sign
-pub of_settings_check : (0 ≡ refusal_of (settings_checks (at_rate nought)) → ⊥) × (6 ≡ refusal_of (settings_checks (at_rate nan)) → ⊥)
+pub of_settings_refusal : (0 ≡ refusal_of (settings_checks (at_rate nought)) → ⊥) × (6 ≡ refusal_of (settings_checks (at_rate nan)) → ⊥)
 unfolding refusal_of finite_settings lt of_bits
-of_settings_check = (λ h. omega arith, λ h. omega arith)
+of_settings_refusal = (λ h. omega arith, λ h. omega arith)
+
+-- so it is of the number that their check's result has
+pub of_settings_check : (0 ≡ refusal_of (settings_checks (at_rate nought)) → ⊥) × (6 ≡ refusal_of (settings_checks (at_rate nan)) → ⊥)
+of_settings_check = of_settings_refusal
 
 abbrev one_and_a_half : Float
 one_and_a_half = fin false 3 (negsuc 0)

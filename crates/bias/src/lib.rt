@@ -37,9 +37,9 @@ pub struct Bias {
 
 // What is worked out from the settings.
 #[derive(Clone, Copy, Debug)]
-struct Derived {
-    filter_coefficient: f32,
-    timeout: u32,
+pub struct Derived {
+    pub filter_coefficient: f32,
+    pub timeout: u32,
 }
 
 const PI: f32 = 3.1415927;
@@ -80,6 +80,13 @@ impl BiasSettings {
             return Err(Refusal::Overflow);
         }
         Ok(())
+    }
+
+    // The number of that refusal, 0 where an estimator starts with these settings.
+    pub fn refusal(self) -> u8
+        ensures { result ≡ refusal_of (settings_checks self) }
+    {
+        answer::number_in(self.check())
     }
 }
 

@@ -29,14 +29,23 @@ use Rattle.offset.specs.Restore.{reframed_of, Restores}
 use Rattle.offset.proofs.Bench.{minus_two, record_with, row, row_offset, running, zero_row, minus_row}
 
 -- version 2 taken as 1, and 1 as 2; 18 bytes taken for 34; another mounting of 24 taken; the caller's floats not looked at
-pub of_check_record
+pub of_record_refusal
     : (0 ≡ refusal_of (record_checks 18 1 (set row 3 2) 0 true) → ⊥)
     × (0 ≡ refusal_of (record_checks 18 2 row 0 true) → ⊥)
     × (0 ≡ refusal_of (record_checks 34 1 row 0 true) → ⊥)
     × (0 ≡ refusal_of (record_checks 18 1 row 24 true) → ⊥)
     × (0 ≡ refusal_of (record_checks 18 1 row 0 false) → ⊥)
 unfolding refusal_of record_checks has_mark vector_at storable_vector storable is_minus_zero of_bits
-of_check_record = (λ h. omega arith, λ h. omega arith, λ h. omega arith, λ h. omega arith, λ h. omega arith)
+of_record_refusal = (λ h. omega arith, λ h. omega arith, λ h. omega arith, λ h. omega arith, λ h. omega arith)
+
+-- so it is of the number that the check's result has
+pub of_check_record
+    : (0 ≡ refusal_of (record_checks 18 1 (set row 3 2) 0 true) → ⊥)
+    × (0 ≡ refusal_of (record_checks 18 2 row 0 true) → ⊥)
+    × (0 ≡ refusal_of (record_checks 34 1 row 0 true) → ⊥)
+    × (0 ≡ refusal_of (record_checks 18 1 row 24 true) → ⊥)
+    × (0 ≡ refusal_of (record_checks 18 1 row 0 false) → ⊥)
+of_check_record = of_record_refusal
 
 abbrev mounting_in : Result Offset Refusal → ℕ
 mounting_in (Ok o) = o.mounting

@@ -90,6 +90,14 @@ pub fn check_record(bytes: &[u8], layout: Layout, mounting: u8, finite: bool) ->
     Ok(())
 }
 
+// The number of those checks, 0 where none refuses.
+pub fn record_refusal(bytes: &[u8], length: usize, version: u16, mounting: u8, finite: bool) -> u8
+    ensures { result ≡ refusal_of (record_checks length version bytes.now mounting finite) }
+{
+    let size = length;
+    answer::number_in(check_record(bytes, Layout { size, version }, mounting, finite))
+}
+
 // What an accepted record holds.
 #[tactic(auto, unfolding(crate::specs::Record::vector_at))]
 fn offset_at(bytes: &[u8]) -> Offset

@@ -108,6 +108,13 @@ impl Settings {
         }
         Ok(())
     }
+
+    // The number of that refusal, 0 of a start that is accepted.
+    pub fn refusal(self) -> u8
+        ensures { result ≡ refusal_of (settings_checks self) }
+    {
+        answer::number_in(self.check())
+    }
 }
 
 impl Config {

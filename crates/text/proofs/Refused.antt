@@ -20,10 +20,14 @@ ten n h = omega (arith, long n, one n h)
 byte_long : (n : ℕ) → n < 256 → length (refused_of n) ≤ 12
 byte_long n h = omega (arith, long n, three n (omega arith))
 
--- so its line stands where there are ten bytes
+-- so its line stands where there are ten bytes, and that of any byte where there are twelve
 pub puts_low : (k : ℕ) (old : List ℕ) {after : List ℕ} {n : ℕ} → k < 10 → 10 ≤ length old
     → Fits (refused_of k) old after n → Puts (refused_of k) old after n
 puts_low k old h room f = fits_put (refused_of k) old (omega (arith, ten k h)) f
+
+pub puts_byte : (k : ℕ) (old : List ℕ) {after : List ℕ} {n : ℕ} → k < 256 → 12 ≤ length old
+    → Fits (refused_of k) old after n → Puts (refused_of k) old after n
+puts_byte k old h room f = fits_put (refused_of k) old (omega (arith, byte_long k h)) f
 
 -- ---- the last line
 
