@@ -6,27 +6,14 @@ use mathlib.Core.Bool.{true, false, not}
 use mathlib.Core.List.{List, [], ◌∷◌, ◌++◌}
 use mathlib.Core.Logic.{◌⊎◌, inl, inr}
 use lib.Dec.{eqb}
-use Rattle.verdict.specs.declared.Found.TheVariants.{Nothing, Reading, Named}
 use Rattle.verdict.specs.declared.Verdict.{Verdict}
-use Rattle.answer.specs.declared.refusal.Refusal.{Refusal}
-use Rattle.answer.specs.declared.refusal.Refusal.TheVariants.{Sequence}
-use Rattle.answer.specs.Rows.{number_in}
-use Rattle.std.specs.declared.result.Result.{Result}
-use Rattle.std.specs.declared.result.Result.TheVariants.{Ok, Err}
-use Rattle.verdict.specs.Verdict.{verdict, no_verdict, next_of, byte_of, verdict_of, is_refused}
-
--- the line that is refused, and its number, 0 where there is none
-abbrev line_of : Verdict → ℕ
-line_of v = elim v.found [ Nothing ↦ 0 | Reading line n ↦ line | Named line n ↦ line ]
-
-abbrev number_of : Verdict → ℕ
-number_of v = elim v.found [ Nothing ↦ 0 | Reading line n ↦ n | Named line n ↦ n ]
+use Rattle.verdict.specs.Verdict.{verdict, no_verdict, next_of, digit_of, byte_of, verdict_of, is_refused}
 
 -- a run that begins with a line, or as a refused one
 pub of_none : (verdict 1 0 0 false ≡ no_verdict → ⊥) × (verdict 0 1 0 false ≡ no_verdict → ⊥)
 of_none = (
   λ h. let z : ◌≡◌ {A = ℕ} 1 0 = ap (λ (v : Verdict). v.lines) h in omega arith,
-  λ h. let z : ◌≡◌ {A = ℕ} 1 0 = ap line_of h in omega arith,
+  λ h. let z : ◌≡◌ {A = ℕ} 1 0 = ap (λ (v : Verdict). v.line) h in omega arith,
 )
 
 -- `refused `
@@ -45,25 +32,33 @@ pub of_over
     × (verdict 1 2 4 true ≡ verdict_of no_verdict lines → ⊥)
     × (verdict 3 2 412 true ≡ verdict_of no_verdict lines → ⊥)
     × (verdict 1 1 1 true ≡ verdict_of no_verdict (refused ++ (49 ∷ 48 ∷ 10 ∷ [])) → ⊥)
-unfolding verdict_of byte_of next_of
+unfolding verdict_of byte_of digit_of next_of
 of_over = (
-  λ h. let z : ◌≡◌ {A = ℕ} 3 2 = ap line_of h in omega arith,
-  λ h. let z : ◌≡◌ {A = ℕ} 5 4 = ap number_of h in omega arith,
+  λ h. let z : ◌≡◌ {A = ℕ} 3 2 = ap (λ (v : Verdict). v.line) h in omega arith,
+  λ h. let z : ◌≡◌ {A = ℕ} 5 4 = ap (λ (v : Verdict). v.number) h in omega arith,
   λ h. let z : ◌≡◌ {A = ℕ} 1 3 = ap (λ (v : Verdict). v.lines) h in omega arith,
-  λ h. let z : ◌≡◌ {A = ℕ} 412 4 = ap number_of h in omega arith,
-  λ h. let z : ◌≡◌ {A = ℕ} 1 10 = ap number_of h in omega arith,
+  λ h. let z : ◌≡◌ {A = ℕ} 412 4 = ap (λ (v : Verdict). v.number) h in omega arith,
+  λ h. let z : ◌≡◌ {A = ℕ} 1 10 = ap (λ (v : Verdict). v.number) h in omega arith,
 )
 
--- a refusal that is not told; one told though there is none
-pub of_tell : (false ≡ is_refused (verdict 3 2 4 true) → ⊥) × (true ≡ is_refused (verdict 3 0 0 false) → ⊥)
-of_tell = (λ h. let z : ◌≡◌ {A = ℕ} 0 1 = cc in omega arith, λ h. let z : ◌≡◌ {A = ℕ} 0 1 = cc in omega arith)
+-- a refusal that is not told; one told though there is none, also where a number stands without a line
+pub of_tell
+    : (false ≡ is_refused (verdict 3 2 4 true) → ⊥)
+    × (true ≡ is_refused (verdict 3 0 0 false) → ⊥)
+    × (true ≡ is_refused (verdict 3 0 4 true) → ⊥)
+of_tell = (
+  λ h. let z : ◌≡◌ {A = ℕ} 0 1 = cc in omega arith,
+  λ h. let z : ◌≡◌ {A = ℕ} 0 1 = cc in omega arith,
+  λ h. let z : ◌≡◌ {A = ℕ} 0 1 = cc in omega arith,
+)
 
--- of the number 8, none told; of no refusal, one
-abbrev outcome : Result (Unit {0}) Refusal → ℕ
-outcome r = number_in r
-
-pub of_tell_log : (false ≡ not (eqb (outcome (Err Sequence)) 0) → ⊥) × (true ≡ not (eqb (outcome (Ok tt)) 0) → ⊥)
-of_tell_log = (λ h. let z : ◌≡◌ {A = ℕ} 0 1 = cc in omega arith, λ h. let z : ◌≡◌ {A = ℕ} 0 1 = cc in omega arith)
+-- of the number 8, or of 200 beyond the table, none told; of 0, one
+pub of_tell_log : (false ≡ not (eqb 8 0) → ⊥) × (false ≡ not (eqb 200 0) → ⊥) × (true ≡ not (eqb 0 0) → ⊥)
+of_tell_log = (
+  λ h. let z : ◌≡◌ {A = ℕ} 0 1 = cc in omega arith,
+  λ h. let z : ◌≡◌ {A = ℕ} 0 1 = cc in omega arith,
+  λ h. let z : ◌≡◌ {A = ℕ} 0 1 = cc in omega arith,
+)
 
 -- the status of a failure: 1, as of a refusal; 2
 pub of_tell_failed : (◌⊎◌ (◌≡◌ {A = ℕ} 1 0) (◌≡◌ {A = ℕ} 1 141) → ⊥) × (◌⊎◌ (◌≡◌ {A = ℕ} 2 0) (◌≡◌ {A = ℕ} 2 141) → ⊥)

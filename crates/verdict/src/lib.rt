@@ -3,7 +3,7 @@
 #![tactic(auto)]
 
 ghost use Rattle.std.specs.Prelude.{◌≡◌, ◌⊎◌, ◌≤◌, length, not, eqb};
-ghost use Rattle.verdict.specs.Verdict.{no_verdict, next_of, ended_of, digit_of, byte_of, verdict_of, is_refused};
+ghost use Rattle.verdict.specs.Verdict.{no_verdict, next_of, digit_of, byte_of, verdict_of, is_refused};
 
 use std::io::{Cursor, Error, ErrorKind, Write};
 
@@ -13,48 +13,13 @@ const STDERR: i32 = 2;
 // As the shell has it of the system's signal: 128 and the signal's number, 13.
 const READER_GONE: u8 = 141;
 
-// The first line that is a refusal.
-#[derive(Clone, Copy, Debug, PartialEq, Eq)]
-pub enum Found {
-    Nothing,
-    // the line, and its number as far as it was read: 0 before the first digit
-    Reading(u64, u16),
-    // the line and its number
-    Named(u64, u16),
-}
-
-impl Found {
-    // What is no digit ends the number, where one is known.
-    fn ended(self) -> Found
-        ensures { result ≡ ended_of self }
-    {
-        match self {
-            Found::Reading(line, number) if number != 0 => Found::Named(line, number),
-            _ => self,
-        }
-    }
-
-    // A byte once the refused line was found: the next digit of its number, of which three are read, or what ends it.
-    fn digit(self, byte: u8) -> Found
-        ensures { result ≡ digit_of self byte }
-    {
-        match self {
-            Found::Reading(line, number) if byte.is_ascii_digit() => {
-                if number > 99 {
-                    return self;
-                }
-                Found::Reading(line, number * 10 + u16::from(byte - b'0'))
-            }
-            _ => self.ended(),
-        }
-    }
-}
-
-// How many lines have ended, and the first that is a refusal.
+// The lines that have ended; the first that is a refusal, and its number, both 0 where there is none; whether the number has ended.
 #[derive(Clone, Copy, Debug, PartialEq, Eq)]
 pub struct Verdict {
     pub lines: u64,
-    pub found: Found,
+    pub line: u64,
+    pub number: u16,
+    pub ended: bool,
 }
 
 // One more, up to the largest number.
@@ -84,7 +49,32 @@ impl Verdict {
     {
         Verdict {
             lines: 0,
-            found: Found::Nothing,
+            line: 0,
+            number: 0,
+            ended: false,
+        }
+    }
+
+    // A byte once the refused line was found: the next digit of its number, of which three are read, or what ends it.
+    #[tactic(auto, unfolding(crate::specs::Verdict::digit_of))]
+    fn digit(self, byte: u8) -> Verdict
+        ensures { result ≡ digit_of self byte }
+    {
+        if self.ended {
+            return self;
+        }
+        if !byte.is_ascii_digit() {
+            return Verdict {
+                ended: self.number != 0,
+                ..self
+            };
+        }
+        if self.number > 99 {
+            return self;
+        }
+        Verdict {
+            number: self.number * 10 + u16::from(byte - b'0'),
+            ..self
         }
     }
 
@@ -93,19 +83,18 @@ impl Verdict {
     fn byte(self, byte: u8) -> Verdict
         ensures { result ≡ byte_of self byte }
     {
-        match (byte, self.found) {
-            (b'\n', found) => Verdict {
+        match byte {
+            b'\n' => Verdict {
                 lines: next(self.lines),
-                found: found.ended(),
-            },
-            (b'r', Found::Nothing) => Verdict {
-                found: Found::Reading(next(self.lines), 0),
+                ended: self.number != 0,
                 ..self
             },
-            (_, found) => Verdict {
-                found: found.digit(byte),
+            _ if self.line != 0 => self.digit(byte),
+            b'r' => Verdict {
+                line: next(self.lines),
                 ..self
             },
+            _ => self,
         }
     }
 
@@ -125,13 +114,11 @@ impl Verdict {
     pub fn tell(self, program: &[u8], unit: &[u8]) -> bool
         ensures { result ≡ is_refused self }
     {
-        match self.found {
-            Found::Nothing => false,
-            Found::Reading(line, number) | Found::Named(line, number) => {
-                name(program, unit, line, u64::from(number));
-                true
-            }
+        if self.line == 0 {
+            return false;
         }
+        name(program, unit, self.line, u64::from(self.number));
+        true
     }
 }
 
