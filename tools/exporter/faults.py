@@ -330,7 +330,7 @@ FAULTS = [
     ("moved down with version 2", "editions/moving.rs", "FIRST.layout.version, out)", "SECOND.layout.version, out)", "readings"),
     ("a restore sets the settings", "editions/restoring.rs", "offset::restore(bias,",
      "offset::restore(Bias { settings: super::settings_at(bytes), ..bias },", "readings"),
-    ("bytes of a float swapped", "sensor_log/record.rs", "s[at + 2], s[at + 3]", "s[at + 3], s[at + 2]", "records"),
+    ("bytes of a float swapped", "sensor_log/record.rs", "65536 * c + 16777216 * d", "65536 * d + 16777216 * c", "records"),
     ("sequence does not wrap", "sensor_log/record.rs", "last.wrapping_add(1) == sequence", "last as u32 + 1 == sequence as u32", "records"),
     ("a byte of a cut record lost", "items.rs", "let end = n.min(buffer.len());", "let end = n.saturating_sub(1).min(buffer.len());", "records"),
     ("a refusal that a short end hides", "course.rs", "Phase::Ended { refusal, .. } => Err(refusal),",

@@ -20,19 +20,21 @@ TYPES = set("u8 u16 u32 u64 usize i8 i16 i32 i64 isize f32 f64 bool".split())
 ASSOCIATED = {f"{t}::{n}" for t in ("f32", "f64") for n in ("to_bits", "from_bits")}
 ASSOCIATED |= {f"{t}::{n}" for t in ("u8", "u16", "u32", "u64", "usize") for n in ("leading_zeros", "MAX")}
 ASSOCIATED |= {f"{t}::{n}" for t in ("i32", "i64") for n in ("MIN", "MAX")}
-# Bytes are a number by the order that the name says, from a narrower type nothing is lost, and what does not fit is an error.
-ASSOCIATED |= {f"{t}::from_le_bytes" for t in ("u16", "u32", "i32")}
+# From a narrower type nothing is lost, and what does not fit is an error.
 ASSOCIATED |= {f"{t}::from" for t in ("u16", "u32", "u64", "usize")} | {f"{t}::try_from" for t in ("u8", "u64")}
-# What is a method of a whole number in both: the sum or the difference modulo 2^n, or up to an end of the type; the distance; the smaller,
-# the larger, or what lies between two (of floats these would not be the same, and none is asked for them); its bytes and its first zeros.
-METHODS = {"wrapping_add", "wrapping_sub", "saturating_add", "saturating_sub", "abs_diff", "min", "max", "clamp", "to_le_bytes",
-           "leading_zeros"}
+# What is a method of a whole number in both: the sum modulo 2^n, the sum or the difference up to an end of the type, the distance, the first
+# zeros.
+METHODS = {"wrapping_add", "saturating_add", "saturating_sub", "abs_diff", "leading_zeros"}
+# The smaller, the larger, and what lies between two, which a float has too, as another function in Rust: they are asked of what a file declares
+# to be a whole number, and in the toolchain's text of what rustc finds to have an order (ordered.py).
+ORDERED = {"min", "max", "clamp"}
+WHOLE = TYPES - {"f32", "f64", "bool"}
 # Of a slice or an array: its length, an element or none, all elements, one after another and with their places, whether it begins with another,
 # what is copied into it or within it.
-METHODS |= {"len", "get", "as_slice", "iter", "enumerate", "starts_with", "copy_from_slice", "copy_within"}
-# Of a float its bits, off a NaN. Of a range: each so many. Of an option or a result: which of the two it is, what it holds or else a value,
-# what it points to. `unwrap` is proved to find what it asks for.
-METHODS |= {"to_bits", "step_by", "is_ok", "is_err", "unwrap", "unwrap_or", "copied"}
+METHODS |= {"len", "get", "iter", "enumerate", "starts_with", "copy_from_slice", "copy_within"}
+# Of a float its bits, off a NaN. Of an option or a result: which of the two it is, what it holds or else a value, what it points to. `unwrap`
+# is proved to find what it asks for.
+METHODS |= {"to_bits", "is_ok", "is_err", "unwrap", "unwrap_or", "copied"}
 # Macros of both: whether a pattern fits, a value written as text, and where no call comes, which is proved.
 MACROS = {"matches", "write", "unreachable"}
 # Where a text may stand.
@@ -53,11 +55,11 @@ DECLARES = {"struct", "enum", "trait", "type", "fn", "const", "static", "mod", "
 # Signs that are one to Rust; the first are known here too.
 KNOWN = ("::", "->", "=>", "..", "==", "!=", "<=", ">=", "<<", ">>", "+=", "-=", "/=")
 JOINED = {"&&", "||", "/*", "//", "*=", "%=", "^=", "&=", "|=", "..=", "...", "<<=", ">>=", "<-"}
-# What the programs have beside that, which are written only to be run on their stored inputs.
-PROGRAMS = {"&&", "||", "..=", "println", "Fn", "FnOnce"}
+# What the programs have beside that, which are written only to be run on their stored inputs; bytes are a number by the order in the name.
+PROGRAMS = {"&&", "||", "..=", "println", "Fn", "FnOnce", "u32::from_le_bytes", "i32::from_le_bytes"}
 # Their methods of built-in types and of what they have of the system, and the parts of std that this is.
 SYSTEM = {"stdin", "reader", "read", "read_exact", "write_all", "arg", "is_ascii_digit", "trim_ascii_end", "is_empty", "split_at", "chunks",
-          "as_chunks", "map", "map_err", "fold", "is_break"}
+          "as_chunks", "map", "map_err", "fold", "is_break", "min", "to_le_bytes", "wrapping_sub", "as_slice"}
 STD = {"io", "env", "process"}
 
 TOKEN = re.compile(r"""(?P<space>\n|[ ]+)|(?P<comment>//[^\n]*)
@@ -182,6 +184,22 @@ def path_at(tokens, i):
     return "".join(t for _, t in parts)
 
 
+def is_whole(tokens, i):
+    """Whether the method at a token is asked of a name that its file declares as a whole number, and nowhere as anything else: behind the colon
+    of a field, a parameter or a local stands its type, and one that is bound without a type is none. rustc finds the rest (ordered.py)."""
+    asked = solid(tokens, max(j for j in range(i) if tokens[j][1] == "."), -1)
+    solids = [t for kind, t in tokens if kind not in ("space", "comment")]
+    found = set()
+    for before, name, after, of in zip(solids, solids[1:], solids[2:], solids[3:]):
+        if name != asked:
+            continue
+        if after == ":" and (of in TYPES or of[0].isupper() or of in "&[("):
+            found.add(of)
+        elif before in ("let", "mut", "for", "|"):
+            found.add("")
+    return bool(found) and found <= WHOLE
+
+
 def judge_word(tokens, i, methods, allowed):
     word, before, after = tokens[i][1], solid(tokens, i, -1), solid(tokens, i, 1)
     # A method that no impl may replace is one of its trait's here; that nobody outside replaces it is for the caller.
@@ -191,10 +209,13 @@ def judge_word(tokens, i, methods, allowed):
         raise Unknown(f"{word} declared anew")
     if after == "!" and word not in KEYWORDS | MACROS | allowed:
         raise Unknown(f"a macro {word}!")
-    if before == "." and after == "(" and word not in METHODS and word not in methods:
-        raise Unknown(f"a method {word} that no type here has")
+    if before == "." and after == "(" and word not in METHODS | methods:
+        if word not in ORDERED:
+            raise Unknown(f"a method {word} that no type here has")
+        if not is_whole(tokens, i):
+            raise Unknown(f"{word} of what is no whole number here")
     if word in TYPES and after == "::":
-        if (name := path_at(tokens, i)) not in ASSOCIATED:
+        if (name := path_at(tokens, i)) not in ASSOCIATED | allowed:
             raise Unknown(name)
     if word == "fmt" and after == "::" and path_at(tokens, i) != "fmt::Display":
         raise Unknown(path_at(tokens, i))
@@ -465,7 +486,8 @@ class Project:
         """A file of a crate as a file of its module."""
         paths = {c: "crate::" for c in self.rows.get(crate, set())}
         try:
-            return rust(crate, text, paths, self.methods, asks=functions(text) if crate in KIT else ())
+            methods = self.methods | ORDERED if crate in KIT else self.methods
+            return rust(crate, text, paths, methods, asks=functions(text) if crate in KIT else ())
         except Unknown as unknown:
             raise Unknown(f"{crate}/src/{stem}.rt: {unknown}") from None
 
