@@ -38,12 +38,11 @@ struct Machine {
     feet: Feet,
 }
 
-// The states after a call, what it says, and the state to print behind it.
+// The states after a call, and what it says.
 #[derive(Clone, Copy)]
 struct Answered {
     machine: Machine,
     said: Said,
-    shown: Option<Words>,
 }
 
 // The states after some calls, and what the lines say of the run.
@@ -71,7 +70,6 @@ fn answer_bias(machine: Machine, call: u32, record: &Record) -> Answered {
             ..machine
         },
         said: told.said,
-        shown: told.state.map(in_words),
     }
 }
 
@@ -83,7 +81,6 @@ fn answer_filter(machine: Machine, call: u32, record: &Record) -> Answered {
             ..machine
         },
         said: told.said,
-        shown: told.state.map(in_words),
     }
 }
 
@@ -95,7 +92,6 @@ fn answer_feet(machine: Machine, call: u32, record: &Record) -> Answered {
             ..machine
         },
         said: told.said,
-        shown: feet::words(told.state, call, record),
     }
 }
 
@@ -119,19 +115,32 @@ fn answer(machine: Machine, call: u32, record: &Record) -> Answered {
         _ => Answered {
             machine,
             said: said_plainly(call, record),
-            shown: None,
         },
     }
 }
 
-// Of a call whose number has 0x100 more the state is not shown.
+// The state that a call changed, in words.
+fn shown(machine: Machine, call: u32, record: &Record) -> Option<Words> {
+    match call {
+        0x60..=0x6C => machine.estimator.map(in_words),
+        0x80..=0x95 => machine.filter.map(in_words),
+        0xA0..=0xA4 => feet::words(machine.feet, call, record),
+        _ => None,
+    }
+}
+
+// Of a call whose number has 0x100 more the state is not shown, and so no words are made of it.
 fn print_answer(machine: Machine, record: &Record, out: &mut Lines) -> Machine {
     let word = word_at(record, 0);
     let quiet = word / 0x100 == 1;
     let call = if quiet { word % 0x100 } else { word };
     let answered = answer(machine, call, record);
-    let shown = if quiet { None } else { answered.shown };
-    out.put_line(answered.said.result, &answered.said.words, shown);
+    let state = if quiet {
+        None
+    } else {
+        shown(answered.machine, call, record)
+    };
+    out.put_line(answered.said.result, &answered.said.words, state);
     answered.machine
 }
 
