@@ -7,11 +7,6 @@ ghost use Rattle.wire.specs.Wire.{u16_at};
 
 use course::Phase;
 
-// The descriptors of standard input and standard output.
-const STDIN: i32 = 0;
-
-const STDOUT: i32 = 1;
-
 // How many bytes a name has, and with it the length behind it.
 const NAME: usize = 32;
 
@@ -189,32 +184,4 @@ pub fn try_log<M: Machine>(machine: M, log: &[u8], lines: &mut [u8]) -> Tried
     let n = cut_at(machine, log, log.len(), &mut buffer, lines);
     let uncut = is_uncut(machine, log, &lines[..n], &mut buffer, &mut out);
     Tried { n, uncut }
-}
-
-// Prints them, and whether they are the same however the log is cut.
-pub fn print_log<M: Machine>(machine: M, log: &[u8]) {
-    let mut lines = io::buffer();
-    let tried = try_log(machine, log, &mut lines);
-    io::write_all(STDOUT, &lines[..tried.n]);
-    let text: &[u8] = if tried.uncut {
-        b"the same however cut\n"
-    } else {
-        b"not the same when cut\n"
-    };
-    io::write_all(STDOUT, text);
-}
-
-// Prints the name of each log on standard input, and tries it.
-pub fn for_each<F: Fn(&[u8])>(try_log: F)
-    requires { F.IsAlwaysCallable try_log }
-{
-    let mut input = io::large_buffer();
-    let n = io::read_full(STDIN, &mut input);
-    let mut rest = &input[..n];
-    while let Some(next) = first(rest) {
-        io::write_all(STDOUT, next.name);
-        io::write_all(STDOUT, b"\n");
-        try_log(next.log);
-        rest = next.rest;
-    }
 }
