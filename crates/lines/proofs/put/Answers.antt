@@ -1,5 +1,8 @@
 -- `lines::put` meets its contract.
+use Prim.Native.Nat.{◌<◌}
+use native.Mathlib.Omega.{arith}
 use mathlib.Core.Path.{ap, sym, subst, ◌∙◌}
+use Rattle.text.specs.Text.{refused_of}
 use Rattle.text.proofs.Putting.{puts_as}
 use Rattle.text.proofs.Refused.{puts_low}
 use Rattle.lines.specs.Rule.{text_of}
@@ -15,4 +18,5 @@ pub returns-in-Err : goal.returns-in-Err
 unfolding text_of
 returns-in-Err c =
     let small = subst Printable c.in-Err.is c.requires.printable in
-    puts_as (ap text_of (sym c.in-Err.is)) (puts_low _ c.args.out.now small c.requires.in_bounds c.put_refused.ensures)
+    let low : c.number.result < 10 = omega (arith, c.number.ensures, small) in
+    puts_as (ap refused_of c.number.ensures ∙ ap text_of (sym c.in-Err.is)) (puts_low _ c.args.out.now low c.requires.in_bounds c.put_refused.ensures)
