@@ -13,30 +13,34 @@ mod show; // show.rt: floats by their bits
 mod still; // still.rt: a sensor that stands still
 mod until; // until.rt: how long something takes
 
-use std::io;
+use show::Out;
+use std::fmt::{self, Write};
 
-fn print_roots(rt: &HostRuntime) -> io::Result<()> {
+fn print_roots(rt: &HostRuntime) -> fmt::Result {
     let tally = roots::run(rt);
-    println!(rt; "roots: {} read, {} wrong", tally.read, tally.wrong)
+    writeln!(Out, "roots: {} read, {} wrong", tally.read, tally.wrong)
 }
 
-fn print_still(rt: &HostRuntime, name: &str, stationary_period: f32) -> io::Result<()> {
+fn print_still(name: &str, stationary_period: f32) -> fmt::Result {
     let still = still::run(stationary_period);
     let (active, moves) = (still.active, still.moves);
-    println!(rt; "{name}: active after reading {active}, offset first moves at {moves}")
+    writeln!(
+        Out,
+        "{name}: active after reading {active}, offset first moves at {moves}"
+    )
 }
 
-fn print(rt: &HostRuntime) -> io::Result<()> {
+fn print(rt: &HostRuntime) -> fmt::Result {
     print_roots(rt)?;
-    print_still(rt, "bias timeout 300", 3.0)?;
-    print_still(rt, "bias timeout 0", 0.0)?;
-    records::print(rt)?;
-    knocks::print(rt)?;
-    orientations::print(rt)?;
-    boards::print(rt)
+    print_still("bias timeout 300", 3.0)?;
+    print_still("bias timeout 0", 0.0)?;
+    records::print()?;
+    knocks::print()?;
+    orientations::print()?;
+    boards::print()
 }
 
-// Where nobody takes what is printed, the status is 0 all the same.
+// What nobody takes is let go, and the status is 0 all the same.
 fn main(rt: HostRuntime) {
     let _ = print(&rt);
 }

@@ -1,7 +1,22 @@
-// Floats as the bench prints them, by their bits.
+// Where the bench prints, and floats as it prints them, by their bits.
 use math::Quaternion;
 use std::fmt;
 use vector::Vector;
+
+// The descriptor of standard output.
+const STDOUT: i32 = 1;
+
+// Standard output, to which each part of a line is written as it comes. What it doesn't take is let go, and what comes behind is tried all
+// the same: `println!` would end the bench there.
+#[derive(Clone, Copy, Debug)]
+pub(crate) struct Out;
+
+impl fmt::Write for Out {
+    fn write_str(&mut self, text: &str) -> fmt::Result {
+        io::write_all(STDOUT, text.as_bytes());
+        Ok(())
+    }
+}
 
 // A blank, and the bits in eight digits.
 #[derive(Clone, Copy, Debug)]

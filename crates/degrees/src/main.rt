@@ -3,9 +3,24 @@
 
 mod vectors; // vectors.rt: what a vector says, and whether an answer is right
 
-use std::io;
+use std::fmt::{self, Write};
 use std::io::Read;
 use vectors::Kind;
+
+// The descriptor of standard output.
+const STDOUT: i32 = 1;
+
+// Standard output, to which each part of a line is written as it comes. What it doesn't take is let go, and what comes behind is tried all
+// the same: `println!` would end the program there.
+#[derive(Clone, Copy, Debug)]
+struct Out;
+
+impl fmt::Write for Out {
+    fn write_str(&mut self, text: &str) -> fmt::Result {
+        io::write_all(STDOUT, text.as_bytes());
+        Ok(())
+    }
+}
 
 // Of the vectors of one kind.
 #[derive(Clone, Copy, Debug)]
@@ -32,10 +47,11 @@ fn run(rt: &HostRuntime) -> [Tally; 5] {
     tallies
 }
 
-fn print(rt: &HostRuntime, tallies: &[Tally; 5]) -> io::Result<()> {
+fn print(tallies: &[Tally; 5]) -> fmt::Result {
     for kind in Kind::ALL {
         let tally = tallies[kind as usize];
-        println!(rt;
+        writeln!(
+            Out,
             "{}: {} read, {} wrong",
             kind.name(),
             tally.read,
@@ -45,8 +61,8 @@ fn print(rt: &HostRuntime, tallies: &[Tally; 5]) -> io::Result<()> {
     Ok(())
 }
 
-// Where nobody takes what is printed, the status is 0 all the same.
+// What nobody takes is let go, and the status is 0 all the same.
 fn main(rt: HostRuntime) {
     let tallies = run(&rt);
-    let _ = print(&rt, &tallies);
+    let _ = print(&tallies);
 }
