@@ -7,8 +7,7 @@ use crate::logs::in_parts;
 use crate::random::Random;
 use crate::report::{self, Seen};
 use gateweave::ahrs::{Ahrs, Axes, Limit, Settings};
-use gateweave::answer::number_in;
-use gateweave::course::{self, Phase, Run};
+use gateweave::course::{self, Phase};
 use gateweave::tally::{self, Tally};
 
 /// Holds the reports of the log of a seed to the Rust's, of which that of all records is given; whether the one of a few ends with 11.
@@ -63,7 +62,7 @@ fn reported(random: &mut Random, log: &[u8], most: u32, earlier: u32) -> Vec<u8>
         counted = fed.tally;
         (fed.left, course::is_ended(counted.phase))
     });
-    let number = number_in(tally::end_of(most, counted, left));
+    let number = tally::number_at(most, counted, left);
     let printed = last(most, counted, left);
     assert!(number == 0 || printed.ends_with(format!("refused {number}\n").as_bytes()), "another number than the one printed");
     printed
@@ -97,8 +96,8 @@ fn by_hand(random: &mut Random, seed: u64) {
             magnetic_trigger: sensors[1].recovery_trigger,
         });
     }
-    // The header was accepted, and nothing is refused at the end.
-    counted.phase = Phase::Records(Run { filter, last: None });
+    // The header was accepted, and the number 0 is no refusal.
+    counted.phase = Phase::Ended { begun: true, number: 0 };
     held(seed, "states set by hand", &report::lines(&states, 0), &last(tally::MOST, counted, 0));
 }
 
