@@ -1,4 +1,5 @@
-// A start, a restart, and the calls that set something.
+// A start, a restart, and the calls that set something. What changes is put into a copy of the state: with the other fields by `..self` the
+// compiler copies each of them by itself, a mark and the bytes beside it apart, and who reads the state then waits for them.
 ghost use Rattle.std.specs.Prelude.{◌≡◌};
 ghost use Rattle.answer.specs.Refusals.{refusal_of};
 ghost use Rattle.answer.specs.Rows.{number_in};
@@ -24,10 +25,9 @@ const MOST_NORM_SQUARED: f32 = 4.0;
 fn with_threshold(rejection: Rejection, timeout: i32) -> Rejection
     ensures { result ≡ with_threshold rejection timeout }
 {
-    Rejection {
-        recovery_threshold: timeout,
-        ..rejection
-    }
+    let mut next = rejection;
+    next.recovery_threshold = timeout;
+    next
 }
 
 // A quaternion of zero, of which every update is refused, is never set.
@@ -83,11 +83,10 @@ impl Ahrs {
         if let Err(refusal) = self.check() {
             return Change::refused(self, refusal);
         }
-        Change::made(Ahrs {
-            startup: false,
-            overrange_recovery: Axes::NONE,
-            ..self
-        })
+        let mut state = self;
+        state.startup = false;
+        state.overrange_recovery = Axes::NONE;
+        Change::made(state)
     }
 
     // Other settings and what they derive: both thresholds become the new timeout, and the triggers stay.
@@ -95,13 +94,12 @@ impl Ahrs {
     fn apply_settings(self, settings: Settings, config: Config) -> Ahrs
         ensures { result ≡ with_settings self settings config }
     {
-        Ahrs {
-            settings,
-            config,
-            acceleration: with_threshold(self.acceleration, config.rejection_timeout),
-            magnetic: with_threshold(self.magnetic, config.rejection_timeout),
-            ..self
-        }
+        let mut next = self;
+        next.settings = settings;
+        next.config = config;
+        next.acceleration = with_threshold(self.acceleration, config.rejection_timeout);
+        next.magnetic = with_threshold(self.magnetic, config.rejection_timeout);
+        next
     }
 
     // Why a settings change is refused: 4 and 5 are of both, 6 and 7 of the new settings alone.
@@ -151,11 +149,9 @@ impl Ahrs {
         if let Err(refusal) = self.check_sample_period(sample_period) {
             return Change::refused(self, refusal);
         }
-        let config = Config {
-            sample_period,
-            ..self.config
-        };
-        Change::made(Ahrs { config, ..self })
+        let mut state = self;
+        state.config.sample_period = sample_period;
+        Change::made(state)
     }
 
     #[tactic(auto, unfolding(answer::specs::Refusals::refusal_of))]
@@ -181,6 +177,8 @@ impl Ahrs {
         if let Err(refusal) = self.check_quaternion(quaternion) {
             return Change::refused(self, refusal);
         }
-        Change::made(Ahrs { quaternion, ..self })
+        let mut state = self;
+        state.quaternion = quaternion;
+        Change::made(state)
     }
 }

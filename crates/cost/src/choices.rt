@@ -14,17 +14,19 @@ struct Kept {
     sum: u32,
 }
 
-// The settings of a start with a gain of the log's, and no limit, so that neither side works out a sine.
-fn row_of(settings: Settings, log: &Readings, i: u32) -> Settings {
-    Settings {
-        gain: log[(i % 8) as usize],
-        acceleration_rejection: Limit::Squared(number::MAX),
-        magnetic_rejection: Limit::Squared(number::MAX),
-        ..settings
+// The settings of a start with a gain of the log's, and no limit, so that neither side works out a sine. The log is a slice here: were its
+// length known, the compiler would keep the table field by field and put it together anew for each choice.
+fn row_of(settings: Settings, log: &[f32], i: u32) -> Settings {
+    let mut row = settings;
+    if let Some(gain) = log.get((i % 8) as usize) {
+        row.gain = *gain;
+        row.acceleration_rejection = Limit::Squared(number::MAX);
+        row.magnetic_rejection = Limit::Squared(number::MAX);
     }
+    row
 }
 
-fn table_of(settings: Settings, log: &Readings) -> Table {
+fn table_of(settings: Settings, log: &[f32]) -> Table {
     let mut rows = [settings; 8];
     for i in 0..8u32 {
         rows[i as usize] = row_of(settings, log, i);
@@ -32,7 +34,7 @@ fn table_of(settings: Settings, log: &Readings) -> Table {
     Table { rows }
 }
 
-fn both(state: Ahrs, log: &Readings) -> Kept {
+fn both(state: Ahrs, log: &[f32]) -> Kept {
     Kept {
         foot: Foot {
             first: Party {
@@ -53,7 +55,7 @@ fn added(sum: u32, settings: Settings) -> u32 {
     sum.wrapping_add(wire::bits_of(settings.gain))
 }
 
-fn choice_step(kept: Kept, _log: &Readings, i: u32) -> Kept {
+fn choice_step(kept: Kept, i: u32) -> Kept {
     let foot = choose_owned(kept.table, kept.foot, Side::First, (i % 8) as u8).state;
     Kept {
         foot,
@@ -62,9 +64,9 @@ fn choice_step(kept: Kept, _log: &Readings, i: u32) -> Kept {
     }
 }
 
-// The sum is of what the table then has in the first party's row. The second party keeps the settings of the start.
-fn rewrite_step(kept: Kept, log: &Readings, i: u32) -> Kept {
-    let given = row_of(kept.foot.second.filter.settings, log, i);
+// The sum is of what the table then has in the first party's row.
+fn rewrite_step(kept: Kept, settings: Settings, log: &[f32], i: u32) -> Kept {
+    let given = row_of(settings, log, i);
     let owned = rewrite_owned(kept.table, kept.foot, Side::First, given);
     Kept {
         foot: owned.stood.state,
@@ -74,29 +76,38 @@ fn rewrite_step(kept: Kept, log: &Readings, i: u32) -> Kept {
 }
 
 // An update at the end, so that no compiler drops what the settings derive.
-fn run<F: Fn(Kept, &Readings, u32) -> Kept>(
-    log: &[f32],
-    count: u32,
-    step: F,
-) -> Result<u32, Refusal>
-    requires { F.IsAlwaysCallable step }
-{
+fn ended(kept: Kept, log: &Readings) -> u32 {
+    let last = update_step(kept.foot.first.filter, log, 0);
+    kept.sum.wrapping_add(wire::bits_of(last.quaternion.w))
+}
+
+// Each of the two loops stands by itself: a closure's copies what it carries at each step, both filters and the table.
+fn choices(log: &[f32], count: u32) -> Result<u32, Refusal> {
     let state = start(log)?;
-    let log = readings(log)?;
+    let whole = readings(log)?;
     let mut kept = both(state, log);
     for i in 0..count {
-        kept = step(kept, log, i);
+        kept = choice_step(kept, i);
     }
-    let last = update_step(kept.foot.first.filter, log, 0);
-    Ok(kept.sum.wrapping_add(wire::bits_of(last.quaternion.w)))
+    Ok(ended(kept, whole))
+}
+
+fn rewrites(log: &[f32], count: u32) -> Result<u32, Refusal> {
+    let state = start(log)?;
+    let whole = readings(log)?;
+    let mut kept = both(state, log);
+    for i in 0..count {
+        kept = rewrite_step(kept, state.settings, log, i);
+    }
+    Ok(ended(kept, whole))
 }
 
 #[unsafe(no_mangle)]
 pub extern "C" fn port_choice(log: &[f32], count: u32) -> u32 {
-    told(run(log, count, choice_step))
+    told(choices(log, count))
 }
 
 #[unsafe(no_mangle)]
 pub extern "C" fn port_rewrite(log: &[f32], count: u32) -> u32 {
-    told(run(log, count, rewrite_step))
+    told(rewrites(log, count))
 }

@@ -14,13 +14,13 @@ impl Party {
         ensures { Settles self settings row result }
     {
         let change = self.filter.set_settings(settings);
-        match change.result {
-            Ok(()) => Change::made(Party {
-                filter: change.state,
-                row,
-            }),
-            Err(refusal) => Change::refused(self, refusal),
+        if let Err(refusal) = change.result {
+            return Change::refused(self, refusal);
         }
+        Change::made(Party {
+            filter: change.state,
+            row,
+        })
     }
 
     // Any row may be chosen, one that the other uses too; `settings` is what it holds.

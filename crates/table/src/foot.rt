@@ -50,14 +50,16 @@ impl Foot {
     fn with_party(self, side: Side, party: Party) -> Foot
         ensures { result ≡ with_party side party self }
     {
+        let first = self.first;
+        let second = self.second;
         match side {
             Side::First => Foot {
                 first: party,
-                ..self
+                second,
             },
             Side::Second => Foot {
+                first,
                 second: party,
-                ..self
             },
         }
     }
