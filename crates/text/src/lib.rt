@@ -74,7 +74,10 @@ pub fn put_named(name: &[u8], number: u64, out: &mut [u8]) -> usize
 {
     let mut digits = [0u8; 20];
     let k = io::decimal(number, &mut digits);
-    if out.len() < name.len().saturating_add(k + 2) {
+    if out.len() < k + 2 {
+        return 0;
+    }
+    if out.len() - (k + 2) < name.len() {
         return 0;
     }
     let n = copy(name, out);
