@@ -22,9 +22,9 @@ def names(project):
 
 
 def with_host(text):
-    """A file of a program as Rust has it: `HostRuntime` and what prints a line are brought in, and `main` makes the first."""
+    """A file of a program as Rust has it: `HostRuntime` is brought in, and `main` makes it."""
     text = re.sub(r"fn main\(rt: HostRuntime\)(.*) \{", r"fn main()\1 {\n    let rt = HostRuntime;", text)
-    uses = ["crate::system::HostRuntime"] * ("HostRuntime" in text) + ["crate::system::print_line as println"] * ("println!" in text)
+    uses = ["crate::system::HostRuntime"] * ("HostRuntime" in text)
     return text.replace("\n\n", "\n\n" + "".join(f"use {use};\n" for use in uses), 1)
 
 

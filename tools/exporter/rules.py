@@ -38,7 +38,7 @@ METHODS |= {"to_bits", "is_ok", "is_err", "unwrap", "unwrap_or", "copied"}
 # Macros of both: whether a pattern fits, a value written as text, and where no call comes, which is proved.
 MACROS = {"matches", "write", "unreachable"}
 # Where a text may stand.
-WRITTEN = re.compile(r"\bwrite!\(f, $|\bprintln!\(rt;\s+$")
+WRITTEN = re.compile(r"\bwrite!\(f, $|\bwriteln!\(\s*Out,\s+$")
 # Traits that are derived, field by field in both; the export adds Debug where it lacks.
 DERIVED = {"Clone", "Copy", "Debug", "PartialEq", "Eq"}
 # Of std, what is core's in Rust, by the same names.
@@ -56,10 +56,12 @@ DECLARES = {"struct", "enum", "trait", "type", "fn", "const", "static", "mod", "
 KNOWN = ("::", "->", "=>", "..", "==", "!=", "<=", ">=", "<<", ">>", "+=", "-=", "/=")
 JOINED = {"&&", "||", "/*", "//", "*=", "%=", "^=", "&=", "|=", "..=", "...", "<<=", ">>=", "<-"}
 # What the programs have beside that, which are written only to be run on their stored inputs; bytes are a number by the order in the name.
-PROGRAMS = {"&&", "||", "..=", "println", "Fn", "FnOnce", "u32::from_le_bytes", "i32::from_le_bytes"}
+PROGRAMS = {"&&", "||", "..=", "writeln", "Fn", "FnOnce", "u32::from_le_bytes", "i32::from_le_bytes"}
+# A sink of their own, and what is written to it.
+PROGRAMS |= {"fmt::", "fmt::Write", "fmt::Result", "fmt::Error"}
 # Their methods of built-in types and of what they have of the system, and the parts of std that this is.
 SYSTEM = {"stdin", "reader", "read", "read_exact", "write_all", "arg", "is_ascii_digit", "trim_ascii_end", "is_empty", "split_at", "chunks",
-          "as_chunks", "map", "map_err", "fold", "is_break", "min", "to_le_bytes", "wrapping_sub", "as_slice"}
+          "as_chunks", "as_bytes", "map", "map_err", "fold", "is_break", "min", "to_le_bytes", "wrapping_sub", "as_slice"}
 STD = {"io", "env", "process"}
 
 TOKEN = re.compile(r"""(?P<space>\n|[ ]+)|(?P<comment>//[^\n]*)
@@ -217,7 +219,7 @@ def judge_word(tokens, i, methods, allowed):
     if word in TYPES and after == "::":
         if (name := path_at(tokens, i)) not in ASSOCIATED | allowed:
             raise Unknown(name)
-    if word == "fmt" and after == "::" and path_at(tokens, i) != "fmt::Display":
+    if word == "fmt" and after == "::" and path_at(tokens, i) not in {"fmt::Display"} | allowed:
         raise Unknown(path_at(tokens, i))
 
 
@@ -264,7 +266,7 @@ def judge(tokens, methods, allowed):
 
 def of_std(path, name):
     """Where that of std which a path names stands here."""
-    if path in CORE:
+    if path in CORE or not name and path == "std::fmt::":
         return "core"
     part = path.split("::")[1]
     if part != "num" and (name or part not in STD):

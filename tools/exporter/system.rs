@@ -16,22 +16,10 @@ impl HostRuntime {
         Stdin
     }
 
-    pub fn say(&self, what: core::fmt::Arguments<'_>) -> io::Result<()> {
-        if kit::io::put(STDOUT_FILENO, what) { Ok(()) } else { Err(io::Error) }
-    }
-
     pub fn write_all(&self, buf: &[u8]) -> io::Result<()> {
         if kit::io::write_all(STDOUT_FILENO, buf) { Ok(()) } else { Err(io::Error) }
     }
 }
-
-/// A line on standard output; of Rattle's `println` the runtime is the first argument.
-macro_rules! print_line {
-    ($rt:expr; $($said:tt)*) => {
-        $rt.say(format_args!("{}\n", format_args!($($said)*)))
-    };
-}
-pub(crate) use print_line;
 
 impl env::Env for HostRuntime {
     fn arg(&self, _: usize, _: &mut [u8]) -> Result<usize, env::FillError> {
