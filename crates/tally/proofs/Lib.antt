@@ -7,6 +7,7 @@ mod Capping  -- what is counted is the course, cut at the limit; on Reading
 mod Adding  -- the totals after some items; on Reading
 mod States  -- what every state of a course has
 pub mod Exact  -- no trigger of a course is below 0 or too large; on States
+pub mod Tabled  -- the number that ends a log is one of the table's
 pub mod Cutting  -- wherever the file is cut; on Capping, Adding and Exact
 mod Bench  -- the definitions at their edges
 mod Wrong
